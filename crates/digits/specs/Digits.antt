@@ -1,0 +1,27 @@
+-- Numbers as bytes: a number in so many bytes, and the number that bytes write.
+use mathlib.Core.List.{List, [], _∷_, _++_}
+use mathlib.Core.Path.{_≡_}
+use Prim.Native.Nat.{ℕ, zero, suc, _/_, _%_, _^_, _<_}
+use lib.ListN.{length}
+use Rattle.std.specs.shelf.Digits.{number as number-in, Under}
+
+-- n in w bytes, the highest first; what does not fit is cut off at the front
+abbrev pub big-endian : ℕ → ℕ → List ℕ
+big-endian zero n = []
+big-endian (suc w) n = big-endian w (n / 256) ++ (n % 256 ∷ [])
+
+-- the number that bytes write, the highest first
+abbrev pub number : List ℕ → ℕ
+number bs = number-in 256 bs
+
+-- each element is a byte
+abbrev pub Bytes : List ℕ → Type 0
+Bytes bs = Under 256 bs
+
+-- Writing and reading undo each other.
+pub record Reads-back : Type 0 where
+  pub long : (w n : ℕ) → length (big-endian w n) ≡ w
+  pub bytes : (w n : ℕ) → Bytes (big-endian w n)
+  pub read : (w n : ℕ) → n < 256 ^ w → number (big-endian w n) ≡ n
+  pub written : (bs : List ℕ) → Bytes bs → big-endian (length bs) (number bs) ≡ bs
+  pub small : (bs : List ℕ) → Bytes bs → number bs < 256 ^ length bs
