@@ -72,3 +72,61 @@ pub fn decode_len_be(buf: &[u8], width: usize) -> Result<usize, TranscriptError>
     padded[WIDEST - width..].copy_from_slice(&buf[0..width]);
     Ok(usize::from_be_bytes(padded))
 }
+
+#[cfg(test)]
+mod tests {
+    use super::*;
+    use std::test::*;
+
+    const MAXIMA: [usize; 12] = [
+        0,
+        1,
+        255,
+        256,
+        65535,
+        65536,
+        0x1000000,
+        0x100000000,
+        0x100000000000000,
+        0xffffffffffffffff,
+        300,
+        0xffffff,
+    ];
+
+    const WIDTHS: [usize; 12] = [0, 1, 1, 2, 2, 3, 4, 5, 8, 8, 2, 3];
+
+    #[test]
+    fn widths_at_the_edges() -> Result<(), Fail> {
+        for (max, width) in MAXIMA.iter().zip(WIDTHS.iter()) {
+            check_eq(bound_byte_width(*max), *width)?;
+        }
+        Ok(())
+    }
+
+    // 2 in each width, which no width but 0 and those above 8 refuses.
+    #[test]
+    fn two_in_each_width() -> Result<(), Fail> {
+        for width in 0..10usize {
+            let (bytes, refused) = encode_len_be(2, width);
+            check_eq(refused, width == 0 || width > 8)?;
+            for (i, b) in bytes.iter().enumerate() {
+                let last = !refused && i + 1 == width;
+                check_eq(*b, if last { 2 } else { 0 })?;
+            }
+        }
+        Ok(())
+    }
+
+    #[test]
+    fn buffers_short_exact_and_long() -> Result<(), Fail> {
+        let buf = [1, 2, 3, 4, 5, 6, 7, 8, 9];
+        for len in 0..10usize {
+            let read = decode_len_be(&buf[0..len], 3);
+            match read {
+                Ok(n) => check_eq((n, len >= 3), (0x010203, true))?,
+                Err(e) => check_eq((e.number(), len < 3), (2, true))?,
+            }
+        }
+        Ok(())
+    }
+}
