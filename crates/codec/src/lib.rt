@@ -1,0 +1,4 @@
+// What a field and a codec mean.
+pub mod bound;
+pub mod codec;
+pub mod transcript_field;

@@ -1,0 +1,4 @@
+pub mod Printable
+pub mod Texts
+pub mod TagCodes
+pub mod Tags
