@@ -3,3 +3,4 @@ pub mod Mixing
 pub mod Padding
 pub mod Blocks
 pub mod Parts
+pub mod Digests

@@ -2,10 +2,11 @@
 -- Assumes nothing.
 use mathlib.Core.List.{List, [], _∷_, _++_}
 use mathlib.Core.Path.{_≡_}
-use Prim.Native.Nat.{ℕ, _<_}
-use lib.ListN.{length, getD, replicate}
+use Prim.Native.Nat.{ℕ}
+use lib.ListN.{length, replicate}
 use Rattle.std.specs.Iters.{folded}
 use Rattle.std.specs.shelf.Lists.{joined}
+use Rattle.digits.specs.Digits.{Bytes}
 use Rattle.keccak.specs.Sponge.{sponge-256, keccak-256}
 use Rattle.keccak.specs.Blocks.{View}
 use Rattle.keccak.specs.Hasher.{fresh, absorb-into, digest-of}
@@ -13,7 +14,7 @@ use Rattle.keccak.specs.Hasher.{fresh, absorb-into, digest-of}
 -- whatever is hashed, 32 bytes come out
 abbrev pub Digests-are-32-bytes : Type 0
 Digests-are-32-bytes =
-    (first : ℕ) (m : List ℕ) → (length (sponge-256 first m) ≡ 32) × ((k : ℕ) → k < 32 → getD (sponge-256 first m) k 0 < 256)
+    (first : ℕ) (m : List ℕ) → (length (sponge-256 first m) ≡ 32) × Bytes (sponge-256 first m)
 
 -- two parts come to the same as the two together, and a message in any parts has the digest of the whole
 pub record Parts-make-the-whole : Type 0 where
