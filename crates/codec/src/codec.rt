@@ -4,8 +4,7 @@ ghost use mathlib.Core.Logic.{_↔_};
 ghost use mathlib.Core.Path.{_≡_};
 ghost use Prim.Native.Nat.{ℕ};
 ghost use Rattle.keccak.specs.Sponge.{keccak-256};
-ghost use Rattle.step.specs.declared.tag_code.TagCode.the-variants.{Algebra};
-ghost use Rattle.step.specs.Tags.{Is-tag};
+ghost use Rattle.step.specs.Tags.{algebra};
 ghost use Rattle.step.specs.Texts.{content};
 ghost use Rattle.codec.specs.Coding.{Coding, Value, Lawful, Limited, decoded, filled-with, filled-to};
 ghost use Rattle.challenger.specs.Sponge.{absorbed, drawn, turned};
@@ -31,7 +30,7 @@ pub trait Codec<U: Unit, T> {
 
     ghost stands: { T → Meaning };
 
-    law tagged: { Is-tag (coding .wire .tag) Algebra (Field·Field .modulus) (Field·Field .dimension) (keccak-256 (content (Field·Field .identity))) };
+    law tagged: { coding .wire .tag ≡ algebra (Field·Field .modulus) (Field·Field .dimension) (keccak-256 (content (Field·Field .identity))) };
 
     law named: { coding .wire .name ≡ Field·Field .name };
 

@@ -2,10 +2,10 @@
 ghost use mathlib.Core.Path.{_≡_};
 ghost use Prim.Native.Nat.{ℕ};
 ghost use Rattle.keccak.specs.Sponge.{keccak-256};
-ghost use Rattle.step.specs.declared.tag_code.TagCode.the-variants.{Algebra};
 ghost use Rattle.step.specs.declared.text.Text.{Text};
-ghost use Rattle.step.specs.Tags.{Is-tag};
+ghost use Rattle.step.specs.Tags.{algebra};
 ghost use Rattle.step.specs.Texts.{content};
+use keccak::keccak256;
 use step::text::Text;
 use step::type_tag::TypeTag;
 
@@ -37,7 +37,15 @@ pub trait Field {
 
 // A field whose values a typed step can carry.
 pub trait TranscriptField: Field {
-    // Stable identity of the field's values: independent of names, and committed to by a pattern's hash.
+    // Stable identity of the field's values: independent of type names, and committed to by a pattern's hash.
     fn algebra_tag() -> TypeTag
-        ensures { λ r. ⌜ Is-tag r Algebra (Self·Field .modulus) (Self·Field .dimension) (keccak-256 (content (Self·Field .identity))) ⌝ };
+        ensures { λ r. ⌜ r ≡ algebra (Self·Field .modulus) (Self·Field .dimension) (keccak-256 (content (Self·Field .identity))) ⌝ }
+    {
+        let identity = Self::identity();
+        TypeTag::algebra(
+            Self::modulus(),
+            Self::dimension(),
+            keccak256(identity.as_bytes()),
+        )
+    }
 }

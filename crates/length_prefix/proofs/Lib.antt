@@ -1,3 +1,2 @@
 pub mod Width
-pub mod Eight
 pub mod Prefix

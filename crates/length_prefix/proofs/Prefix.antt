@@ -16,7 +16,7 @@ use Rattle.std.proofs.shelf.Ways.{tells}
 use Rattle.std.specs.declared.result.Result.the-variants.{Ok}
 use Rattle.digits.specs.Digits.{big-endian, number, Bytes}
 use Rattle.digits.proofs.BigEndian.{long, read, written, small, last}
-use Rattle.length_prefix.proofs.Eight.{eight-of, eight-are}
+use Rattle.digits.proofs.Eight.{eight-be, eight-be-is}
 use Rattle.length_prefix.proofs.Width.{pow-256}
 use Rattle.length_prefix.specs.Prefix.{fits, encoded, holds, decoded}
 
@@ -76,10 +76,10 @@ limit w lt =
     ap (λ k. k % 2 ^ 64) e ∙ mod-eq-of-lt (omega (arith, two, up, pos)) ∙ sym (pow-256 w)
 
 -- the last w of the eight bytes, and zeros
-pub left-aligned : (len w : ℕ) (part : List ℕ) → fits len w ≡ true → part ≡ drop (8 - w) (eight-of len)
+pub left-aligned : (len w : ℕ) (part : List ℕ) → fits len w ≡ true → part ≡ drop (8 - w) (eight-be len)
     → part ++ drop w (replicate 8 0) ≡ encoded len w
 left-aligned len w part h e =
     let le = narrow len w h in
     let at : 8 ≡ (8 - w) + w = omega arith in
-    let is : part ≡ big-endian w len = e ∙ ap (drop (8 - w)) (eight-are len ∙ ap (λ k. big-endian k len) at) ∙ last (8 - w) w len in
+    let is : part ≡ big-endian w len = e ∙ ap (drop (8 - w)) (eight-be-is len ∙ ap (λ k. big-endian k len) at) ∙ last (8 - w) w len in
     ap₂ _++_ is (drop-replicate w 8 0) ∙ sym (encoded-is len w h)

@@ -1,3 +1,4 @@
 pub mod Deciding
+pub mod Tags
 pub mod Texts
 pub mod Copying

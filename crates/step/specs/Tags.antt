@@ -1,12 +1,46 @@
--- A type tag by its four fields.
+-- The type tags.
+use mathlib.Core.Bool.{Bool, true, false, cond}
 use mathlib.Core.List.{List}
-use mathlib.Core.Path.{_≡_}
+use mathlib.Core.Path.{_≡_, refl, subst}
 use Prim.Native.Nat.{ℕ}
-use Rattle.step.specs.declared.tag_code.TagCode.{TagCode}
+use lib.ListN.{replicate}
+use Rattle.step.specs.declared.tag_code.TagCode.the-variants.{Marker, Bytes, Algebra}
 use Rattle.step.specs.declared.type_tag.TypeTag.{TypeTag}
 
-pub record Is-tag (t : TypeTag) (code : TagCode) (modulus degree : ℕ) (basis : List ℕ) : Type 0 where
-  pub code-is : t .code ≡ code
-  pub modulus-is : t .modulus ≡ modulus
-  pub degree-is : t .degree ≡ degree
-  pub basis-is : t .basis ≡ basis
+abbrev pub marker : TypeTag
+marker = record {
+  code = Marker;
+  modulus = 0;
+  degree = 0;
+  basis = replicate 32 0;
+  «no_modulus» = λ _. refl;
+  «no_degree» = λ _. refl;
+  «no_basis» = λ _. refl;
+}
+
+abbrev pub raw-bytes : TypeTag
+raw-bytes = record {
+  code = Bytes;
+  modulus = 0;
+  degree = 0;
+  basis = replicate 32 0;
+  «no_modulus» = λ _. refl;
+  «no_degree» = λ _. refl;
+  «no_basis» = λ _. refl;
+}
+
+-- an algebra is not plain, so nothing is asked of its numbers
+pub not-plain : {P : Type 0} → false ≡ true → P
+not-plain e = let F : Bool → Type 0 = λ b. cond b ⊥ (Unit {0}) in absurd (subst F e tt)
+
+-- so many coefficients over the prime field of an order
+abbrev pub algebra : ℕ → ℕ → List ℕ → TypeTag
+algebra modulus degree basis = record {
+  code = Algebra;
+  modulus = modulus;
+  degree = degree;
+  basis = basis;
+  «no_modulus» = not-plain;
+  «no_degree» = not-plain;
+  «no_basis» = not-plain;
+}

@@ -3,7 +3,7 @@ pub mod methods;
 
 ghost use mathlib.Core.Bool.{true};
 ghost use mathlib.Core.Path.{_≡_};
-ghost use lib.ListN.{length, replicate};
+ghost use lib.ListN.{replicate};
 ghost use Rattle.step.specs.TagCodes.{plain};
 use crate::tag_code::TagCode;
 
@@ -15,7 +15,6 @@ pub struct TypeTag {
     pub degree: usize,
     // Keccak-256 of the bytes that identify the algebra's relations and ordered basis.
     pub basis: [u8; 32],
-    ghost whole: { length basis ≡ 32 },
     ghost no_modulus: { plain code ≡ true → modulus ≡ 0 },
     ghost no_degree: { plain code ≡ true → degree ≡ 0 },
     ghost no_basis: { plain code ≡ true → basis ≡ replicate 32 0 },

@@ -7,7 +7,7 @@ use Prim.Native.Nat.{_-_, _^_, _≤_, _<_}
 use lib.ListN.{drop, take, replicate}
 use Rattle.std.proofs.shelf.Lists.{take-rest}
 use Rattle.length_prefix.specs.Prefix.{fits}
-use Rattle.length_prefix.proofs.Eight.{eight-of}
+use Rattle.digits.proofs.Eight.{eight-be}
 use Rattle.length_prefix.proofs.Prefix.{fits-so, over-so, limit, left-aligned}
 use Rattle.length_prefix.proofs.encode_len_be.Needs as need
 
@@ -27,6 +27,6 @@ returns c =
       | need.else-width-lt-WIDEST·by·then-width-lt-WIDEST·else-len-width x ↦ fits-so len w (omega arith) (subst (λ k. len < k) (limit w (x .if-width-lt-WIDEST .taken)) (x .if-len-width .left))
       | need.else-width-lt-WIDEST·by·else-width-lt-WIDEST x ↦ let e : 8 ≡ w = omega (arith, x .if-width-lt-WIDEST .left) in fits-so len w (omega arith) (subst (λ k. len < 256 ^ k) e (omega arith))
     ] in
-    let part : c .copy-from-slice .last .self ≡ drop (8 - w) (eight-of len) =
-    c .copy-from-slice .ensures .after ∙ ap (λ xs. take (8 - (8 - w)) (drop (8 - w) xs)) (c .to-be-bytes-full .ensures) ∙ take-rest (eight-of len) (8 - w) in
+    let part : c .copy-from-slice .last .self ≡ drop (8 - w) (eight-be len) =
+    c .copy-from-slice .ensures .after ∙ ap (λ xs. take (8 - (8 - w)) (drop (8 - w) xs)) (c .to-be-bytes-full .ensures) ∙ take-rest (eight-be len) (8 - w) in
     record { bytes = ap (λ k. c .copy-from-slice .last .self ++ drop k (replicate 8 0)) (sub-zero w) ∙ left-aligned len w _ ok part; refused = rw ok }

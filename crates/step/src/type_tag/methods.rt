@@ -1,16 +1,14 @@
 // Making and comparing type tags.
 ghost use mathlib.Core.Path.{_≡_};
-ghost use lib.ListN.{replicate};
 ghost use Rattle.std.specs.Orderings.{Decides};
-ghost use Rattle.step.specs.declared.tag_code.TagCode.the-variants.{Marker, Bytes, Algebra};
-ghost use Rattle.step.specs.Tags.{Is-tag};
+ghost use Rattle.step.specs.Tags.{marker, raw-bytes, algebra};
 use super::TypeTag;
 use crate::tag_code::TagCode;
 use crate::tag_code::TagCodePartialEq;
 
 impl TypeTag {
     pub fn marker() -> TypeTag
-        ensures { λ r. ⌜ Is-tag r Marker 0 0 (replicate 32 0) ⌝ }
+        ensures { λ r. ⌜ r ≡ marker ⌝ }
     {
         TypeTag {
             code: TagCode::Marker,
@@ -21,7 +19,7 @@ impl TypeTag {
     }
 
     pub fn bytes() -> TypeTag
-        ensures { λ r. ⌜ Is-tag r Bytes 0 0 (replicate 32 0) ⌝ }
+        ensures { λ r. ⌜ r ≡ raw-bytes ⌝ }
     {
         TypeTag {
             code: TagCode::Bytes,
@@ -33,7 +31,7 @@ impl TypeTag {
 
     // `degree` coefficients over the prime field of order `modulus`.
     pub fn algebra(modulus: u64, degree: usize, basis: [u8; 32]) -> TypeTag
-        ensures { λ r. ⌜ Is-tag r Algebra modulus degree basis ⌝ }
+        ensures { λ r. ⌜ r ≡ algebra modulus degree basis ⌝ }
     {
         TypeTag {
             code: TagCode::Algebra,
