@@ -4,6 +4,7 @@ mod laws;
 mod sponge;
 
 pub use hasher::Keccak256;
+pub use keccak_f::keccak_f;
 pub use laws::digests_are_32_bytes;
 pub use laws::known_answers_hold;
 pub use laws::parts_make_the_whole;

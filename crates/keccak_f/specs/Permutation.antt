@@ -26,11 +26,8 @@ parity a x = bitXor (bitXor (bitXor (bitXor (lane a x 0) (lane a x 1)) (lane a x
 abbrev pub theta-mask : List ℕ → ℕ → ℕ
 theta-mask a x = bitXor (parity a (x + 4)) (rot (parity a (x + 1)) 1)
 
-abbrev pub theta-lane : List ℕ → ℕ → ℕ → ℕ
-theta-lane a x y = bitXor (lane a x y) (theta-mask a x)
-
 unfoldable pub θ : List ℕ → List ℕ
-θ a = grid (theta-lane a)
+θ a = grid (λ x y. bitXor (lane a x y) (theta-mask a x))
 
 unfoldable pub ρ : List ℕ → List ℕ
 ρ a = grid (λ x y. rot (lane a x y) (lane offsets x y))
@@ -39,15 +36,8 @@ unfoldable pub ρ : List ℕ → List ℕ
 unfoldable pub π : List ℕ → List ℕ
 π a = grid (λ x y. lane a (x + 3 * y) x)
 
--- lane (x, y) of π (ρ a)
-abbrev pub rho-pi-lane : List ℕ → ℕ → ℕ → ℕ
-rho-pi-lane a x y = rot (lane a (x + 3 * y) x) (lane offsets (x + 3 * y) x)
-
-abbrev pub chi-lane : List ℕ → ℕ → ℕ → ℕ
-chi-lane a x y = bitXor (lane a x y) (bitAnd (flip (lane a (x + 1) y)) (lane a (x + 2) y))
-
 unfoldable pub χ : List ℕ → List ℕ
-χ a = grid (chi-lane a)
+χ a = grid (λ x y. bitXor (lane a x y) (bitAnd (flip (lane a (x + 1) y)) (lane a (x + 2) y)))
 
 unfoldable pub ι : ℕ → List ℕ → List ℕ
 ι c a = set a 0 (bitXor (getD a 0 0) c)

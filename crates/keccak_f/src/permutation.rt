@@ -2,7 +2,8 @@
 ghost use mathlib.Core.Path.{_≡_};
 ghost use Prim.Native.Nat.{_<_};
 ghost use lib.ListN.{getD};
-ghost use Rattle.keccak_f.specs.Permutation.{lane as laneOf, parity as parityOf, theta-mask, theta-lane, rho-pi-lane, chi-lane, θ, ρ, π, χ, keccak-f};
+ghost use Rattle.keccak_f.specs.Permutation.{lane as laneOf, parity as parityOf, theta-mask, keccak-f, Round};
+ghost use Rattle.keccak_f.specs.Lanes.{theta-masks, moved-lane, moved-row, chi-lane};
 ghost use Rattle.keccak_f.specs.Tables.{offsets, constants};
 
 const ROUND_CONSTANTS: [u64; 24] = [
@@ -93,64 +94,69 @@ fn theta_mask(a: &[u64; 25], x: usize) -> u64
     parity(a, x + 4) ^ parity(a, x + 1).rotate_left(1)
 }
 
-fn rho_pi_lane(a: &[u64; 25], x: usize, y: usize) -> u64
-    requires { ⌜ x < 5 ⌝ ∗ ⌜ y < 5 ⌝ }
-    ensures { λ r. ⌜ r ≡ rho-pi-lane (now (a .entry)) x y ⌝ }
+// Each `COPY` of the functions below is compiled by itself. It has one call, so it is compiled in line.
+fn theta_masks<const COPY: usize>(a: &[u64; 25]) -> [u64; 5]
+    ensures { λ r. ⌜ r ≡ theta-masks (now (a .entry)) ⌝ }
 {
-    lane(a, x + 3 * y, x).rotate_left(offset(x + 3 * y, x))
+    [
+        theta_mask(a, 0),
+        theta_mask(a, 1),
+        theta_mask(a, 2),
+        theta_mask(a, 3),
+        theta_mask(a, 4),
+    ]
 }
 
-fn chi_lane(a: &[u64; 25], x: usize, y: usize) -> u64
-    requires { ⌜ x < 5 ⌝ ∗ ⌜ y < 5 ⌝ }
-    ensures { λ r. ⌜ r ≡ chi-lane (now (a .entry)) x y ⌝ }
+// Lane (x, y) after theta, rho and pi.
+fn moved_lane(a: &[u64; 25], masks: &[u64; 5], x: usize, y: usize) -> u64
+    requires place { ⌜ x < 5 ⌝ ∗ ⌜ y < 5 ⌝ }
+    requires masks { ⌜ now masks ≡ theta-masks (now a) ⌝ }
+    ensures { λ r. ⌜ r ≡ moved-lane (now (a .entry)) x y ⌝ }
 {
-    lane(a, x, y) ^ (!lane(a, x + 1, y) & lane(a, x + 2, y))
+    (lane(a, x + 3 * y, x) ^ masks[(x + 3 * y) % 5]).rotate_left(offset(x + 3 * y, x))
 }
 
-fn theta(a: &mut [u64; 25])
-    ensures { λ _. ⌜ now (a .exit) ≡ θ (now (a .entry)) ⌝ }
+fn moved_row<const COPY: usize>(a: &[u64; 25], masks: &[u64; 5], y: usize) -> [u64; 5]
+    requires place { ⌜ y < 5 ⌝ }
+    requires masks { ⌜ now masks ≡ theta-masks (now a) ⌝ }
+    ensures { λ r. ⌜ r ≡ moved-row (now (a .entry)) y ⌝ }
 {
-    let old = *a;
-    let mut masks = [0; 5];
-    for k in 0..5 {
-        masks[k] = theta_mask(&old, k);
-    }
+    [
+        moved_lane(a, masks, 0, y),
+        moved_lane(a, masks, 1, y),
+        moved_lane(a, masks, 2, y),
+        moved_lane(a, masks, 3, y),
+        moved_lane(a, masks, 4, y),
+    ]
+}
+
+fn chi_lane(row: &[u64; 5], x: usize) -> u64
+    requires { ⌜ x < 5 ⌝ }
+    ensures { λ r. ⌜ r ≡ chi-lane (now (row .entry)) x ⌝ }
+{
+    row[x % 5] ^ (!row[(x + 1) % 5] & row[(x + 2) % 5])
+}
+
+// One round from `a` into `out`.
+fn round<const COPY: usize>(a: &[u64; 25], out: &mut [u64; 25], constant: u64)
+    ensures { λ _. ⌜ now (out .exit) ≡ Round constant (now (a .entry)) ⌝ }
+{
+    let masks = theta_masks::<COPY>(a);
     for y in 0..5 {
+        let row = moved_row::<COPY>(a, &masks, y);
         for x in 0..5 {
-            a[x + 5 * y] = lane(&old, x, y) ^ masks[x];
+            out[x + 5 * y] = chi_lane(&row, x);
         }
     }
-}
-
-fn rho_pi(a: &mut [u64; 25])
-    ensures { λ _. ⌜ now (a .exit) ≡ π (ρ (now (a .entry))) ⌝ }
-{
-    let old = *a;
-    for y in 0..5 {
-        for x in 0..5 {
-            a[x + 5 * y] = rho_pi_lane(&old, x, y);
-        }
-    }
-}
-
-fn chi(a: &mut [u64; 25])
-    ensures { λ _. ⌜ now (a .exit) ≡ χ (now (a .entry)) ⌝ }
-{
-    let old = *a;
-    for y in 0..5 {
-        for x in 0..5 {
-            a[x + 5 * y] = chi_lane(&old, x, y);
-        }
-    }
+    out[0] ^= constant;
 }
 
 pub fn keccak_f(state: &mut [u64; 25])
     ensures { λ _. ⌜ now (state .exit) ≡ keccak-f (now (state .entry)) ⌝ }
 {
-    for round in 0..24 {
-        theta(state);
-        rho_pi(state);
-        chi(state);
-        state[0] ^= round_constant(round);
+    let mut next = [0; 25];
+    for pair in 0..12 {
+        round::<0>(state, &mut next, round_constant(2 * pair));
+        round::<1>(&next, state, round_constant(2 * pair + 1));
     }
 }

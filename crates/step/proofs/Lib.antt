@@ -1,4 +1,5 @@
 pub mod Deciding
 pub mod Tags
 pub mod Texts
+pub mod Sames
 pub mod Copying

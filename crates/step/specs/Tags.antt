@@ -1,9 +1,15 @@
 -- The type tags.
-use mathlib.Core.Bool.{Bool, true, false, cond}
+use mathlib.Core.Bool.{Bool, true, false, cond, not, _&&_, _||_}
 use mathlib.Core.List.{List}
 use mathlib.Core.Path.{_≡_, refl, subst}
 use Prim.Native.Nat.{ℕ}
+use lib.Dec.{eqb, ltb}
 use lib.ListN.{replicate}
+use Rattle.error.specs.declared.TranscriptError.{TranscriptError}
+use Rattle.error.specs.declared.TranscriptError.the-variants.{InvalidField}
+use Rattle.std.specs.declared.result.Result.{Result}
+use Rattle.std.specs.declared.result.Result.the-variants.{Ok, Err}
+use Rattle.std.specs.shelf.Text.{sameBytes}
 use Rattle.step.specs.declared.tag_code.TagCode.the-variants.{Marker, Bytes, Algebra}
 use Rattle.step.specs.declared.type_tag.TypeTag.{TypeTag}
 
@@ -44,3 +50,14 @@ algebra modulus degree basis = record {
   «no_degree» = not-plain;
   «no_basis» = not-plain;
 }
+
+-- what a plain code does not use is zero
+abbrev pub unused : ℕ → ℕ → List ℕ → Bool
+unused modulus degree basis = (eqb modulus 0 && eqb degree 0) && sameBytes basis (replicate 32 0)
+
+-- the tag of a plain code: 0, 1 or 2
+abbrev pub made-tag : ℕ → ℕ → ℕ → List ℕ → Result TypeTag TranscriptError
+made-tag code modulus degree basis =
+    cond (eqb code 2) (Ok (algebra modulus degree basis))
+    (cond (ltb 2 code || not (unused modulus degree basis)) (Err InvalidField)
+    (cond (eqb code 0) (Ok marker) (Ok raw-bytes)))

@@ -1,11 +1,7 @@
 // Making, reading and comparing texts.
-ghost use mathlib.Core.Bool.{true, false};
 ghost use mathlib.Core.Path.{_≡_};
-ghost use Rattle.error.specs.declared.TranscriptError.the-variants.{InvalidField};
 ghost use Rattle.std.specs.Orderings.{Decides};
-ghost use Rattle.std.specs.Results.{Cases};
-ghost use Rattle.step.specs.Printable.{is-text};
-ghost use Rattle.step.specs.Texts.{content};
+ghost use Rattle.step.specs.Texts.{content, made-text, u8-name};
 use super::Text;
 use error::TranscriptError;
 
@@ -13,7 +9,7 @@ const LONGEST: usize = 48;
 
 impl Text {
     pub fn new(bytes: &[u8]) -> Result<Text, TranscriptError>
-        ensures { λ r. ⌜ Cases r (λ t. (is-text (now (bytes .entry)) ≡ true) × (content t ≡ now (bytes .entry))) (λ e. (is-text (now (bytes .entry)) ≡ false) × (e ≡ InvalidField)) ⌝ }
+        ensures { λ r. ⌜ r ≡ made-text (now (bytes .entry)) ⌝ }
     {
         if bytes.len() > LONGEST {
             return Err(TranscriptError::InvalidField);
@@ -29,6 +25,16 @@ impl Text {
             bytes: held,
             len: bytes.len(),
         })
+    }
+
+    // The type name of raw bytes.
+    pub fn u8() -> Text
+        ensures { λ r. ⌜ r ≡ u8-name ⌝ }
+    {
+        let mut bytes = [0u8; 48];
+        bytes[0] = b'u';
+        bytes[1] = b'8';
+        Text { bytes, len: 2 }
     }
 
     pub fn as_bytes(&self) -> &[u8]

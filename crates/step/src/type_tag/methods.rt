@@ -1,10 +1,11 @@
 // Making and comparing type tags.
 ghost use mathlib.Core.Path.{_≡_};
 ghost use Rattle.std.specs.Orderings.{Decides};
-ghost use Rattle.step.specs.Tags.{marker, raw-bytes, algebra};
+ghost use Rattle.step.specs.Tags.{marker, raw-bytes, algebra, unused, made-tag};
 use super::TypeTag;
 use crate::tag_code::TagCode;
 use crate::tag_code::TagCodePartialEq;
+use error::TranscriptError;
 
 impl TypeTag {
     pub fn marker() -> TypeTag
@@ -38,6 +39,37 @@ impl TypeTag {
             modulus,
             degree,
             basis,
+        }
+    }
+}
+
+// Whether nothing is said that only an algebra says.
+fn is_unused(modulus: u64, degree: usize, basis: &[u8; 32]) -> bool
+    ensures { λ r. ⌜ r ≡ unused modulus degree (now (basis .entry)) ⌝ }
+{
+    (modulus == 0) & (degree == 0) & (*basis == [0; 32])
+}
+
+impl TypeTag {
+    // The tag of a plain code and its numbers: refused where the code is unknown, or what it does not use is not zero.
+    pub fn from_parts(
+        code: u8,
+        modulus: u64,
+        degree: usize,
+        basis: [u8; 32],
+    ) -> Result<TypeTag, TranscriptError>
+        ensures { λ r. ⌜ r ≡ made-tag code modulus degree basis ⌝ }
+    {
+        if code == 2 {
+            return Ok(TypeTag::algebra(modulus, degree, basis));
+        }
+        if code > 2 || !is_unused(modulus, degree, &basis) {
+            return Err(TranscriptError::InvalidField);
+        }
+        if code == 0 {
+            Ok(TypeTag::marker())
+        } else {
+            Ok(TypeTag::bytes())
         }
     }
 }

@@ -1,13 +1,20 @@
-use mathlib.Core.Path.{_≡_, refl, ap, _∙_}
+use mathlib.Core.Path.{_≡_, sym, ap, _∙_}
 use mathlib.Core.Bool.{true, false, _&&_}
 use native.Mathlib.Omega.{arith}
-use borrow.Author.Tests.{le-leb}
+use borrow.Author.Tests.{le-leb, lt-leb}
 use lib.ListN.{length, getD}
 use Rattle.std.proofs.shelf.Ways.{tells}
-use Rattle.step.specs.Printable.{prints, all-print}
+use Rattle.step.specs.Printable.{prints, all-print, is-text}
 use Rattle.step.proofs.Copying.{copied-more, copied-stops, copied-whole, copied-content, copied-blank, copied-prints}
+use Rattle.step.proofs.Texts.{made-ok, made-no}
 use Rattle.step.proofs.text.Text.new.Needs as need
 use Rattle.step.proofs.text.Text.new.Needs.{then-b-lt32·by·then-b-lt32, then-b-lt32·by·else-b-lt32·then-b-gt126}
+
+pub returns-then-bytes-gt-LONGEST : need.returns-then-bytes-gt-LONGEST
+returns-then-bytes-gt-LONGEST c =
+    let bs = c .args .bytes .now in
+    let a = lt-leb (length bs) 48 (c .if-bytes-gt-LONGEST .taken) in
+    sym (made-no bs (rw a))
 
 pub returns-then-b-lt32 : need.returns-then-b-lt32
 returns-then-b-lt32 c =
@@ -17,7 +24,7 @@ returns-then-b-lt32 c =
     elim (c .then-b-lt32 .came) [ then-b-lt32·by·then-b-lt32 w ↦ grind (arith, tells) | then-b-lt32·by·else-b-lt32·then-b-gt126 w ↦ grind (arith, tells) ] in
     let stops = copied-stops bs (c .loop-at .held) i (omega arith) (omega arith) (c .loop-at .inv) no′ in
     let a = le-leb (length bs) 48 (omega arith) in
-    (rw (a, stops), refl)
+    sym (made-no bs (rw (a, stops)))
 
 pub loop-at-again : need.loop-at-again
 loop-at-again c =
@@ -46,4 +53,5 @@ returns c =
     let short = c .if-bytes-gt-LONGEST .left in
     let a = le-leb (length bs) 48 short in
     let b = copied-prints bs held i all short (c .loop-at .inv) in
-    (rw (a, b), copied-content bs held i all short (c .loop-at .inv))
+    let good : is-text bs ≡ true = rw (a, b) in
+    sym (made-ok bs _ good (copied-content bs held i all short (c .loop-at .inv)))

@@ -1,0 +1,4 @@
+pub mod Stack
+pub mod Rows
+pub mod Walk
+pub mod Patterns

@@ -1,0 +1,5 @@
+pub mod Language
+pub mod Meaning
+pub mod Texts
+pub mod Answers
+pub mod Replies
