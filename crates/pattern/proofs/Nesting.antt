@@ -2,18 +2,23 @@
 use mathlib.Core.Bool.{Bool, cond}
 use mathlib.Core.List.{List, [], _∷_}
 use mathlib.Core.Path.{_≡_, refl, sym, ap, _∙_}
-use Prim.Native.Nat.{ℕ, _<_}
+use Prim.Native.Nat.{ℕ, _≤_, _<_}
 use native.Mathlib.Omega.{arith}
 use lib.ListN.{length, getD}
+use mathlib.Core.Logic.{⊎-elim}
+use borrow.Author.Tests.{le-ltb}
 use Rattle.std.proofs.shelf.Lists.{getD-default}
-use Rattle.error.specs.declared.TranscriptError.the-variants.{MissingBegin, MismatchedBeginEnd, InvalidKind}
+use Rattle.std.proofs.shelf.Tests.{cases-lt}
+use Rattle.error.specs.declared.TranscriptError.{TranscriptError}
+use Rattle.error.specs.declared.TranscriptError.the-variants.{MissingBegin, MismatchedBeginEnd, InvalidKind, PatternFull}
 use Rattle.std.specs.declared.option.Option.the-variants.{Some, None}
 use Rattle.std.specs.declared.result.Result.the-variants.{Ok, Err}
+use Rattle.step.specs.declared.interaction.Hierarchy.{Hierarchy}
 use Rattle.step.specs.declared.interaction.Interaction.{Interaction}
 use Rattle.step.specs.Steps.{admits, closes}
 use Rattle.pattern.specs.Patterns.{Low}
 use Rattle.pattern.specs.Stack.{top, rest}
-use Rattle.pattern.specs.Walk.{nested, closed, step-at, no-step}
+use Rattle.pattern.specs.Walk.{Open, nested, closed, structure, placed, met, step-at, no-step}
 use Rattle.pattern.proofs.Stacks.{low-top}
 
 clash : {A : Type 0} → _≡_ {A = ℕ} 0 1 → A
@@ -48,3 +53,25 @@ module _ (before : List Interaction) (s : Interaction) where
       let same : y ≡ b = cc in
       let w : closes s (step-at before y) ≡ v = ap (λ k. closes s (step-at before k)) same ∙ ap (closes s) (sym (opener (y ∷ bs) b x low t is)) ∙ sym e in
       (λ i. cond (w i) (Ok bs) (Err (MismatchedBeginEnd (same i) (length before))))
+
+-- what one step comes to, by its hierarchy
+module _ (before : List Interaction) (bs : List ℕ) (s : Interaction) (h : Hierarchy) (is : s .hierarchy ≡ h) where
+  pub refused : {e : TranscriptError} → Err e ≡ structure before bs s h → met before bs s ≡ Err e
+  unfolding met
+  refused e = ap (λ k. placed (length before) (structure before bs s k)) is ∙ ap (placed (length before)) (sym e)
+
+  pub passed : (o : List ℕ) (r : Open) → Ok o ≡ structure before bs s h → r ≡ placed (length before) (Ok o) → met before bs s ≡ r
+  unfolding met
+  passed o r e p = ap (λ k. placed (length before) (structure before bs s k)) is ∙ ap (placed (length before)) (sym e) ∙ sym p
+
+pub place-free : (n : ℕ) (o : List ℕ) → Ok o ≡ placed n (Ok o) → n < 64
+place-free n o e = ⊎-elim (λ lt. lt) (λ ge. let f = le-ltb n 64 ge in let g : Ok o ≡ Err PatternFull = e ∙ rw f in clash cc) (cases-lt n 64)
+
+placed-free : (n : ℕ) (r : Open) (o : List ℕ) → Ok o ≡ placed n r → n < 64
+placed-free n (Err e) o h = clash cc
+placed-free n (Ok b) o h = ⊎-elim (λ lt. lt) (λ ge. let f = le-ltb n 64 ge in let g : Ok o ≡ Err PatternFull = h ∙ rw f in clash cc) (cases-lt n 64)
+
+-- a step that is taken has a place
+pub met-free : (before : List Interaction) (bs : List ℕ) (s : Interaction) (o : List ℕ) → Ok o ≡ met before bs s → length before < 64
+unfolding met
+met-free before bs s o h = placed-free (length before) (structure before bs s (s .hierarchy)) o h

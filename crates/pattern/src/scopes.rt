@@ -1,7 +1,7 @@
 // The positions of the openers that are still open, innermost on top.
 ghost use mathlib.Core.List.{[], _∷_};
 ghost use mathlib.Core.Path.{_≡_};
-ghost use Prim.Native.Nat.{_≤_, _<_};
+ghost use Prim.Native.Nat.{_+_, _≤_, _<_};
 ghost use Rattle.pattern.specs.Stack.{held, top, rest};
 
 #[derive(Clone, Copy)]
@@ -13,7 +13,8 @@ pub struct Scopes {
 
 impl Scopes {
     pub fn new() -> Scopes
-        ensures { λ r. ⌜ held (r .at) (r .depth) ≡ [] ⌝ }
+        ensures items { λ r. ⌜ held (r .at) (r .depth) ≡ [] ⌝ }
+        ensures depth { λ r. ⌜ r .depth ≡ 0 ⌝ }
     {
         Scopes {
             at: [0; 64],
@@ -44,7 +45,8 @@ impl Scopes {
 
     pub(crate) fn push(&mut self, position: usize)
         requires { ⌜ now self .depth < 64 ⌝ }
-        ensures { λ _. ⌜ held (now (self .exit) .at) (now (self .exit) .depth) ≡ position ∷ held (now (self .entry) .at) (now (self .entry) .depth) ⌝ }
+        ensures items { λ _. ⌜ held (now (self .exit) .at) (now (self .exit) .depth) ≡ position ∷ held (now (self .entry) .at) (now (self .entry) .depth) ⌝ }
+        ensures depth { λ _. ⌜ now (self .exit) .depth ≡ now (self .entry) .depth + 1 ⌝ }
     {
         self.at[self.depth] = position;
         self.depth += 1;

@@ -2,17 +2,20 @@
 ghost use mathlib.Core.List.{List};
 ghost use mathlib.Core.Path.{_≡_};
 ghost use Prim.Native.Nat.{ℕ, _+_, _≤_};
+ghost use lib.Dec.{eqb};
 ghost use lib.ListN.{length};
 ghost use Rattle.pattern.specs.Patterns.{steps as stepsOf, with-open, held-result, pattern-result, Low, LowResult};
 ghost use Rattle.pattern.specs.Stack.{held};
-ghost use Rattle.pattern.specs.Walk.{nested, closed, met, validated};
+ghost use Rattle.std.specs.declared.result.Result.the-variants.{Ok};
+ghost use Rattle.pattern.specs.Walk.{nested, closed, placed, met, validated};
 use super::InteractionPattern;
 use crate::candidate::Candidate;
 use crate::scopes::Scopes;
 use error::TranscriptError;
 use step::interaction::Hierarchy;
-use step::interaction::HierarchyPartialEq;
 use step::interaction::Interaction;
+use step::interaction::Kind;
+use step::text::Text;
 
 // How many steps a pattern holds.
 const MAX_STEPS: usize = 64;
@@ -63,6 +66,17 @@ fn close_scope(
     })
 }
 
+// Whether a place is free for a step after `before`.
+fn check_place(before: &[Interaction]) -> Result<(), TranscriptError>
+    ensures { λ r. ⌜ ((open′ : List ℕ) → with-open open′ r ≡ placed (length (now (before .entry))) (Ok open′)) ⌝ }
+{
+    if before.len() < MAX_STEPS {
+        Ok(())
+    } else {
+        Err(TranscriptError::PatternFull)
+    }
+}
+
 // The scopes that are open when `step` comes after `before`, which left `scopes` open.
 pub(crate) fn nest(
     before: &[Interaction],
@@ -74,16 +88,65 @@ pub(crate) fn nest(
     ensures value { λ r. ⌜ held-result r ≡ met (now (before .entry)) (held (scopes .at) (scopes .depth)) (now (step .entry)) ⌝ }
     ensures low { λ r. ⌜ LowResult (length (now (before .entry)) + 1) r ⌝ }
 {
-    if step.hierarchy == Hierarchy::End {
-        close_scope(before, &mut scopes, step)?;
-    } else {
-        check_nested_kind(before, &scopes, step)?;
+    match step.hierarchy {
+        Hierarchy::Begin => {
+            check_nested_kind(before, &scopes, step)?;
+            check_place(before)?;
+            scopes.push(before.len());
+            Ok(scopes)
+        }
+        Hierarchy::End => {
+            close_scope(before, &mut scopes, step)?;
+            check_place(before)?;
+            Ok(scopes)
+        }
+        Hierarchy::Atomic => {
+            check_nested_kind(before, &scopes, step)?;
+            check_place(before)?;
+            Ok(scopes)
+        }
     }
-    if before.len() >= MAX_STEPS {
-        return Err(TranscriptError::PatternFull);
+}
+
+impl InteractionPattern {
+    // Build a pattern from a sequence of steps, or of plain rows, after validating its structure.
+    pub fn new<S: Candidate>(rows: &[S]) -> Result<InteractionPattern, TranscriptError>
+        ensures { λ r. ⌜ pattern-result r ≡ validated (S·Candidate .made) (now (rows .entry)) ⌝ }
+    {
+        let blank = Interaction::marker(Hierarchy::Atomic, Kind::Protocol, Text::u8(), Text::u8());
+        let mut steps = [blank; 64];
+        // Positions of the openers that are still open.
+        let mut scopes = Scopes::new();
+        for (position, row) in rows.iter().enumerate() {
+            let step = row.step()?;
+            scopes = nest(&steps[0..position], scopes, &step)?;
+            steps[position] = step;
+        }
+        if let Some(position) = scopes.pop() {
+            return Err(TranscriptError::MissingEnd { position });
+        }
+        Ok(InteractionPattern {
+            steps,
+            len: rows.len(),
+        })
     }
-    if step.hierarchy == Hierarchy::Begin {
-        scopes.push(before.len());
+
+    // The steps, in order.
+    pub fn interactions(&self) -> &[Interaction]
+        ensures { λ r. ⌜ now r ≡ stepsOf (now (self .entry)) ⌝ }
+    {
+        &self.steps[0..self.len]
     }
-    Ok(scopes)
+
+    pub fn len(&self) -> usize
+        ensures { λ r. ⌜ r ≡ length (stepsOf (now (self .entry))) ⌝ }
+    {
+        self.len
+    }
+
+    pub fn is_empty(&self) -> bool
+        ensures { λ r. ⌜ r ≡ eqb (length (stepsOf (now (self .entry)))) 0 ⌝ }
+    {
+        self.len == 0
+    }
 }
