@@ -1,3 +1,4 @@
 pub mod Stacks
 pub mod Nesting
 pub mod Walking
+pub mod Playing

@@ -2,3 +2,5 @@ pub mod Stack
 pub mod Rows
 pub mod Walk
 pub mod Patterns
+pub mod Taken
+pub mod Plays

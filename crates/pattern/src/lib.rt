@@ -1,5 +1,7 @@
-// Patterns of steps: how they are checked, and the interface of what records and what replays one.
+// Patterns of steps: how they are checked, the interface of what records and what replays one, and the player.
 pub mod candidate;
+pub mod interface;
+pub mod player;
 pub mod row;
 pub mod scopes;
 pub mod sequence;

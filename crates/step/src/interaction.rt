@@ -1,6 +1,6 @@
 // A single typed step of an interactive protocol: where it stands in the nesting, its role, its name, and what it carries.
 ghost use mathlib.Core.Path.{_≡_};
-ghost use Rattle.step.specs.Steps.{admits, closes, bytes-step, marker-step};
+ghost use Rattle.step.specs.Steps.{alike, admits, closes, bytes-step, marker-step};
 use crate::text::Text;
 use crate::text::methods::TextPartialEq;
 use crate::type_tag::TypeTag;
@@ -84,6 +84,13 @@ impl Interaction {
             type_name,
             length: Length::None,
         }
+    }
+
+    // Whether the two are alike in all six fields.
+    pub fn is_alike(&self, other: &Interaction) -> bool
+        ensures { λ r. ⌜ r ≡ alike (now (self .entry)) (now (other .entry)) ⌝ }
+    {
+        *self == *other
     }
 
     // Whether a step of that kind may stand in the scope that this one opens.

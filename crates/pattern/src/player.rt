@@ -1,0 +1,13 @@
+// Walks a recorded sequence and matches each request against the next expected step.
+pub mod playing;
+
+ghost use Prim.Native.Nat.{_≤_};
+use crate::sequence::InteractionPattern;
+
+#[derive(Clone, Copy)]
+pub struct PatternPlayer {
+    pattern: InteractionPattern,
+    position: usize,
+    ended: bool,
+    ghost within: { position ≤ pattern .len },
+}
