@@ -22,11 +22,11 @@ clash : {A : Type 0} → _≡_ {A = ℕ} 0 1 → A
 clash e = absurd (omega arith)
 
 module _ {A : Type 0} (made : A → Result Interaction TranscriptError) where
-  walk-more : (before : List Interaction) (bs : List ℕ) (x : A) (xs : List A) → walk made before bs (x ∷ xs) ≡ then (made x) (λ s. then (met before bs s) (λ o. walk made (before ++ s ∷ []) o xs))
+  pub walk-more : (before : List Interaction) (bs : List ℕ) (x : A) (xs : List A) → walk made before bs (x ∷ xs) ≡ then (made x) (λ s. then (met before bs s) (λ o. walk made (before ++ s ∷ []) o xs))
   unfolding walk
   walk-more before bs x xs = refl
 
-  walk-none : (before : List Interaction) (bs : List ℕ) → walk made before bs [] ≡ ended before bs
+  pub walk-none : (before : List Interaction) (bs : List ℕ) → walk made before bs [] ≡ ended before bs
   unfolding walk
   walk-none before bs = refl
 

@@ -3,6 +3,7 @@ use mathlib.Core.List.{List, [], _∷_}
 use Prim.Native.Nat.{ℕ, _<_, _≤_}
 use lib.ListN.{take}
 use Rattle.error.specs.declared.TranscriptError.{TranscriptError}
+use Rattle.pattern.specs.declared.draft.Draft.{Draft}
 use Rattle.pattern.specs.declared.scopes.Scopes.{Scopes}
 use Rattle.pattern.specs.declared.sequence.InteractionPattern.{InteractionPattern}
 use Rattle.pattern.specs.Stack.{held}
@@ -12,6 +13,9 @@ use Rattle.step.specs.declared.interaction.Interaction.{Interaction}
 
 abbrev pub steps : InteractionPattern → List Interaction
 steps p = take (p .len) (p .steps)
+
+abbrev pub drafted : Draft → List Interaction
+drafted d = take (d .len) (d .steps)
 
 abbrev pub held-result : Result Scopes TranscriptError → Result (List ℕ) TranscriptError
 held-result (Ok s) = Ok (held (s .at) (s .depth))

@@ -65,3 +65,24 @@ validated made xs = walk made [] [] xs
 -- of steps that are good by their type
 abbrev pub checked : List Interaction → Result (List Interaction) TranscriptError
 checked steps = validated (λ s. Ok s) steps
+
+-- the openers that a sequence leaves open, or the first refusal
+unfoldable pub runs : List Interaction → List ℕ → List Interaction → Open
+runs before bs [] = Ok bs
+runs before bs (s ∷ ss) = then (met before bs s) (λ open′. runs (before ++ s ∷ []) open′ ss)
+
+abbrev pub opens : List Interaction → Open
+opens steps = runs [] [] steps
+
+abbrev pub openers : Open → List ℕ
+openers (Ok bs) = bs
+openers (Err e) = []
+
+-- whether a step is refused, and by what
+abbrev pub refusal-of : Open → Result (Unit {0}) TranscriptError
+refusal-of (Ok bs) = Ok tt
+refusal-of (Err e) = Err e
+
+-- the answer to one step more
+abbrev pub added : List Interaction → Interaction → Result (Unit {0}) TranscriptError
+added steps s = refusal-of (then (opens steps) (λ bs. met steps bs s))

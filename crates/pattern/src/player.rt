@@ -1,5 +1,7 @@
 // Walks a recorded sequence and matches each request against the next expected step.
 pub mod playing;
+pub mod reading;
+pub mod stepping;
 
 ghost use Prim.Native.Nat.{_≤_};
 use crate::sequence::InteractionPattern;

@@ -1,13 +1,15 @@
 // The structural check of a sequence of steps, and reading a pattern.
+ghost use mathlib.Core.Bool.{true};
 ghost use mathlib.Core.List.{List};
 ghost use mathlib.Core.Path.{_≡_};
 ghost use Prim.Native.Nat.{ℕ, _+_, _≤_};
 ghost use lib.Dec.{eqb};
-ghost use lib.ListN.{length};
+ghost use lib.ListN.{length, take};
 ghost use Rattle.pattern.specs.Patterns.{steps as stepsOf, with-open, held-result, pattern-result, Low, LowResult};
 ghost use Rattle.pattern.specs.Stack.{held};
 ghost use Rattle.std.specs.declared.result.Result.the-variants.{Ok};
-ghost use Rattle.pattern.specs.Walk.{nested, closed, placed, met, validated};
+ghost use Rattle.std.specs.Results.{isOk};
+ghost use Rattle.pattern.specs.Walk.{nested, closed, placed, met, validated, checked};
 use super::InteractionPattern;
 use crate::candidate::Candidate;
 use crate::scopes::Scopes;
@@ -19,6 +21,11 @@ use step::text::Text;
 
 // How many steps a pattern holds.
 const MAX_STEPS: usize = 64;
+
+// What stands in the places of a table that hold no step yet.
+pub(crate) fn blank() -> Interaction {
+    Interaction::marker(Hierarchy::Atomic, Kind::Protocol, Text::u8(), Text::u8())
+}
 
 // Whether `step` may stand in the innermost of the scopes that are open after `before`.
 fn check_nested_kind(
@@ -113,8 +120,7 @@ impl InteractionPattern {
     pub fn new<S: Candidate>(rows: &[S]) -> Result<InteractionPattern, TranscriptError>
         ensures { λ r. ⌜ pattern-result r ≡ validated (S·Candidate .made) (now (rows .entry)) ⌝ }
     {
-        let blank = Interaction::marker(Hierarchy::Atomic, Kind::Protocol, Text::u8(), Text::u8());
-        let mut steps = [blank; 64];
+        let mut steps = [blank(); 64];
         // Positions of the openers that are still open.
         let mut scopes = Scopes::new();
         for (position, row) in rows.iter().enumerate() {
@@ -131,6 +137,16 @@ impl InteractionPattern {
         })
     }
 
+    // The first `len` steps of a table, which have been checked.
+    pub(crate) fn of_table(steps: [Interaction; 64], len: usize) -> InteractionPattern
+        requires whole { ⌜ length steps ≡ 64 ⌝ }
+        requires fits { ⌜ len ≤ 64 ⌝ }
+        requires nested { ⌜ isOk (checked (take len steps)) ≡ true ⌝ }
+        ensures { λ r. ⌜ stepsOf r ≡ take len steps ⌝ }
+    {
+        InteractionPattern { steps, len }
+    }
+
     // The steps, in order.
     pub fn interactions(&self) -> &[Interaction]
         ensures { λ r. ⌜ now r ≡ stepsOf (now (self .entry)) ⌝ }
@@ -141,12 +157,12 @@ impl InteractionPattern {
     pub fn len(&self) -> usize
         ensures { λ r. ⌜ r ≡ length (stepsOf (now (self .entry))) ⌝ }
     {
-        self.len
+        self.interactions().len()
     }
 
     pub fn is_empty(&self) -> bool
         ensures { λ r. ⌜ r ≡ eqb (length (stepsOf (now (self .entry)))) 0 ⌝ }
     {
-        self.len == 0
+        self.interactions().is_empty()
     }
 }
