@@ -1,6 +1,5 @@
 pub mod Stacks
 pub mod Nesting
 pub mod Walking
-pub mod Playing
 pub mod Opening
 pub mod Drafting

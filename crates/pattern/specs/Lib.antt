@@ -2,5 +2,3 @@ pub mod Stack
 pub mod Rows
 pub mod Walk
 pub mod Patterns
-pub mod Taken
-pub mod Plays

@@ -1,8 +1,10 @@
 -- What a pattern holds, and positions that lie before a place.
 use mathlib.Core.List.{List, [], _∷_}
+use mathlib.Core.Path.{_≡_}
 use Prim.Native.Nat.{ℕ, _<_, _≤_}
 use lib.ListN.{take}
 use Rattle.error.specs.declared.TranscriptError.{TranscriptError}
+use Rattle.error.specs.Numbers.{number}
 use Rattle.pattern.specs.declared.draft.Draft.{Draft}
 use Rattle.pattern.specs.declared.scopes.Scopes.{Scopes}
 use Rattle.pattern.specs.declared.sequence.InteractionPattern.{InteractionPattern}
@@ -29,6 +31,11 @@ with-open bs (Err e) = Err e
 abbrev pub pattern-result : Result InteractionPattern TranscriptError → Result (List Interaction) TranscriptError
 pattern-result (Ok p) = Ok (steps p)
 pattern-result (Err e) = Err e
+
+-- no refusal but that a scope is open
+abbrev pub Unclosed : Result (List Interaction) TranscriptError → Type 0
+Unclosed (Ok ss) = Unit {0}
+Unclosed (Err e) = number e ≡ 8
 
 abbrev pub Low : ℕ → List ℕ → Type 0
 Low n [] = Unit {0}

@@ -1,8 +1,6 @@
-// Patterns of steps: how they are checked, the interface of what records and what replays one, and the player.
+// Patterns of steps: what is checked, how, and what passed.
 pub mod candidate;
 pub mod draft;
-pub mod interface;
-pub mod player;
 pub mod row;
 pub mod scopes;
 pub mod sequence;

@@ -3,7 +3,7 @@ ghost use mathlib.Core.Bool.{cond};
 ghost use mathlib.Core.List.{[], _∷_, _++_};
 ghost use mathlib.Core.Path.{_≡_};
 ghost use lib.ListN.{length};
-ghost use Rattle.pattern.specs.Patterns.{drafted, pattern-result};
+ghost use Rattle.pattern.specs.Patterns.{drafted, pattern-result, Unclosed};
 ghost use Rattle.pattern.specs.Walk.{added, checked};
 ghost use Rattle.std.specs.Results.{isOk};
 use super::Draft;
@@ -46,7 +46,8 @@ impl Draft {
 
     // The pattern of these steps, where every scope is closed.
     pub fn close(&self) -> Result<InteractionPattern, TranscriptError>
-        ensures { λ r. ⌜ pattern-result r ≡ checked (drafted (now (self .entry))) ⌝ }
+        ensures value { λ r. ⌜ pattern-result r ≡ checked (drafted (now (self .entry))) ⌝ }
+        ensures refusal { λ r. ⌜ Unclosed (pattern-result r) ⌝ }
     {
         if let Some(position) = self.scopes.last() {
             return Err(TranscriptError::MissingEnd { position });

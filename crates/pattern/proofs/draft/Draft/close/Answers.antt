@@ -11,7 +11,7 @@ use Rattle.pattern.proofs.draft.Draft.close.Needs as need
 pub returns-in-Some : need.returns-in-Some
 returns-in-Some c =
     let d = c .args .self .now in
-    left-open (take (d .len) (d .steps)) (held (d .scopes .at) (d .scopes .depth)) _ (opened (opens (take (d .len) (d .steps))) _ (d .nested) (d .scoped)) (c .in-Some .ensures tt)
+    record { value = left-open (take (d .len) (d .steps)) (held (d .scopes .at) (d .scopes .depth)) _ (opened (opens (take (d .len) (d .steps))) _ (d .nested) (d .scoped)) (c .in-Some .ensures tt); refusal = refl }
 
 pub of-table-requires : need.of-table-requires
 of-table-requires c κs =
@@ -25,4 +25,4 @@ of-table-requires c κs =
 pub returns : need.returns
 returns c =
     let d = c .args .self .now in
-    ap Ok (c .of-table .ensures) ∙ sym (all-closed (take (d .len) (d .steps)) (held (d .scopes .at) (d .scopes .depth)) (opened (opens (take (d .len) (d .steps))) _ (d .nested) (d .scoped)) (c .in-rest .ensures tt))
+    record { value = ap Ok (c .of-table .ensures) ∙ sym (all-closed (take (d .len) (d .steps)) (held (d .scopes .at) (d .scopes .depth)) (opened (opens (take (d .len) (d .steps))) _ (d .nested) (d .scoped)) (c .in-rest .ensures tt)); refusal = tt }

@@ -1,11 +1,11 @@
 // Replaying a pattern step by step.
 ghost use mathlib.Core.Bool.{false};
 ghost use mathlib.Core.Path.{_≡_};
 ghost use Rattle.pattern.specs.Patterns.{steps as stepsOf};
-ghost use Rattle.pattern.specs.Plays.{play-of, asked, peeked, advanced, halted, played-out};
+ghost use Rattle.player.specs.Plays.{play-of, asked, peeked, advanced, halted, played-out};
 use super::PatternPlayer;
-use crate::sequence::InteractionPattern;
 use error::TranscriptError;
+use pattern::sequence::InteractionPattern;
 use step::interaction::Interaction;
 
 impl PatternPlayer {

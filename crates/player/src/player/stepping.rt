@@ -1,7 +1,7 @@
 // A player as a party that follows a pattern.
 ghost use mathlib.Core.Path.{_≡_};
-ghost use Rattle.pattern.specs.Plays.{play-of, asked, moved, halted, taken};
-ghost use Rattle.pattern.specs.Taken.{after, aborted};
+ghost use Rattle.player.specs.Plays.{play-of, asked, moved, halted, taken};
+ghost use Rattle.player.specs.Taken.{after, aborted};
 use super::PatternPlayer;
 use crate::interface::Pattern;
 use error::TranscriptError;

@@ -3,9 +3,9 @@ use mathlib.Core.Path.{_≡_, refl, sym, ap, _∙_}
 use Prim.Native.Nat.{_<_}
 use native.Mathlib.Omega.{arith}
 use lib.ListN.{length, getD}
-use Rattle.pattern.specs.Plays.{play-of}
-use Rattle.pattern.proofs.Playing.{compared}
-use Rattle.pattern.proofs.player.PatternPlayer.expect.Needs as need
+use Rattle.player.specs.Plays.{play-of}
+use Rattle.player.proofs.Playing.{compared}
+use Rattle.player.proofs.player.PatternPlayer.expect.Needs as need
 
 pub returns-then-is-alike : need.returns-then-is-alike
 returns-then-is-alike c =

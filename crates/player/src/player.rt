@@ -4,7 +4,7 @@ pub mod reading;
 pub mod stepping;
 
 ghost use Prim.Native.Nat.{_≤_};
-use crate::sequence::InteractionPattern;
+use pattern::sequence::InteractionPattern;
 
 #[derive(Clone, Copy)]
 pub struct PatternPlayer {

@@ -3,7 +3,7 @@ ghost use mathlib.Core.Bool.{true};
 ghost use mathlib.Core.List.{List};
 ghost use mathlib.Core.Path.{_≡_};
 ghost use Rattle.error.specs.declared.TranscriptError.{TranscriptError};
-ghost use Rattle.pattern.specs.Taken.{Taken, after, aborted};
+ghost use Rattle.player.specs.Taken.{Taken, after, aborted};
 ghost use Rattle.std.specs.declared.result.Result.{Result};
 ghost use Rattle.step.specs.declared.interaction.Hierarchy.the-variants.{Begin, End};
 ghost use Rattle.step.specs.declared.interaction.Interaction.{Interaction};

@@ -13,8 +13,8 @@ use Rattle.std.specs.declared.result.Result.the-variants.{Ok, Err}
 use Rattle.step.specs.declared.interaction.Interaction.{Interaction}
 use Rattle.step.specs.Steps.{alike}
 use Rattle.step.proofs.Sames.{alike-decides}
-use Rattle.pattern.specs.Plays.{Play, asked, advanced, taken}
+use Rattle.player.specs.Plays.{Play, asked, advanced, taken}
 use Rattle.pattern.specs.Walk.{no-step, step-at}
 
 pub compared : (p : Play) (s x : Interaction) (v : Bool) → p .ended ≡ false → p .position < length (p .pattern) → x ≡ getD (p .pattern) (p .position) x → v ≡ alike x s
     → asked p s ≡ cond v (Ok tt) (Err StepMismatch)

@@ -6,10 +6,10 @@ use lib.Dec.{ltb}
 use lib.ListN.{length, take}
 use Rattle.error.specs.declared.TranscriptError.{TranscriptError}
 use Rattle.error.specs.declared.TranscriptError.the-variants.{Ended, NoStepLeft, StepMismatch, StepsLeft}
-use Rattle.pattern.specs.declared.player.PatternPlayer.{PatternPlayer}
+use Rattle.player.specs.declared.player.PatternPlayer.{PatternPlayer}
 use Rattle.pattern.specs.Patterns.{steps}
-use Rattle.pattern.specs.Taken.{Taken}
+use Rattle.player.specs.Taken.{Taken}
 use Rattle.pattern.specs.Walk.{step-at}
 use Rattle.std.specs.declared.result.Result.{Result}
 use Rattle.std.specs.declared.result.Result.the-variants.{Ok, Err}
 use Rattle.step.specs.declared.interaction.Interaction.{Interaction}

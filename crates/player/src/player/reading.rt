@@ -2,9 +2,9 @@
 ghost use mathlib.Core.Path.{_≡_};
 ghost use Prim.Native.Nat.{_-_};
 ghost use lib.ListN.{length};
-ghost use Rattle.pattern.specs.Plays.{play-of};
+ghost use Rattle.player.specs.Plays.{play-of};
 use super::PatternPlayer;
-use crate::sequence::InteractionPattern;
+use pattern::sequence::InteractionPattern;
 
 impl PatternPlayer {
     pub fn pattern(&self) -> &InteractionPattern

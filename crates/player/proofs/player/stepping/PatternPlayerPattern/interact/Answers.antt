@@ -1,7 +1,7 @@
 use mathlib.Core.Path.{_≡_, sym, ap, _∙_}
-use Rattle.pattern.specs.Plays.{play-of, taken, advanced}
-use Rattle.pattern.proofs.Playing.{accepted-taken}
-use Rattle.pattern.proofs.player.stepping.PatternPlayerPattern.interact.Needs as need
+use Rattle.player.specs.Plays.{play-of, taken, advanced}
+use Rattle.player.proofs.Playing.{accepted-taken}
+use Rattle.player.proofs.player.stepping.PatternPlayerPattern.interact.Needs as need
 
 pub returns : need.returns
 returns c =
