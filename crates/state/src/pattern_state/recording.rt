@@ -6,6 +6,7 @@ ghost use Rattle.pattern.specs.Patterns.{pattern-result};
 ghost use Rattle.player.specs.Taken.{aborted};
 ghost use Rattle.state.specs.Records.{record-of, finished, Finishes};
 use super::PatternState;
+use crate::pattern_state::stepping::PatternStatePattern;
 use crate::pledge::Pledge;
 use error::TranscriptError;
 use pattern::draft::Draft;
