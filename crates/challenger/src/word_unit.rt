@@ -67,7 +67,7 @@ pub impl Unit for WordUnit as WordUnitUnit {
     ghost items = { words };
 
     fn observe_bytes<C: CanObserve<u32>>(challenger: &mut C, bytes: &[u8]) {
-        for i in 0..bytes.len().div_ceil(3) {
+        for i in 0..WordUnit::word_count(bytes) {
             challenger.observe(word_at(bytes, i));
         }
     }
