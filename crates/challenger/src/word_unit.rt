@@ -41,13 +41,33 @@ fn quad_at(wire: &[u8], i: usize) -> u32
     u32::from_le_bytes([a, b, c, d])
 }
 
+impl WordUnit {
+    // How many words a byte string has.
+    pub fn word_count(bytes: &[u8]) -> usize
+        ensures { λ r. ⌜ r ≡ length (words (now (bytes .entry))) ⌝ }
+    {
+        bytes.len().div_ceil(3)
+    }
+
+    // Word `i` of a byte string, and 0 past the end.
+    pub fn word(bytes: &[u8], i: usize) -> u32
+        ensures { λ r. ⌜ r ≡ getD (words (now (bytes .entry))) i 0 ⌝ }
+    {
+        if i < WordUnit::word_count(bytes) {
+            word_at(bytes, i)
+        } else {
+            0
+        }
+    }
+}
+
 pub impl Unit for WordUnit as WordUnitUnit {
     type Item = u32;
 
     ghost items = { words };
 
     fn observe_bytes<C: CanObserve<u32>>(challenger: &mut C, bytes: &[u8]) {
-        for i in 0..bytes.len().div_ceil(3) {
+        for i in 0..WordUnit::word_count(bytes) {
             challenger.observe(word_at(bytes, i));
         }
     }

@@ -12,12 +12,23 @@ use Rattle.std.specs.shelf.Text.{sameBytes}
 use Rattle.scan.specs.Words.{words}
 use Rattle.scan.specs.Numbers.{numeral}
 use Rattle.scan.specs.Hex.{hexed}
+use Rattle.script.specs.declared.command.UnitName.{UnitName}
+use Rattle.script.specs.declared.command.FieldName.{FieldName}
+use Rattle.script.specs.declared.command.CodecName.{CodecName}
+use Rattle.script.specs.declared.command.Value.{Value}
+use Rattle.script.specs.Named.{unit-named, field-named, codec-named, fitting}
 
 -- a command that needs no state
 pub data Query : Type 0 where
   width : ℕ → Query
   encode-len : ℕ → ℕ → Query
   decode-len : List ℕ → ℕ → Query
+  keccak : List ℕ → Query
+  items : UnitName → List ℕ → Query
+  encode : Value → Query
+  decode : CodecName → List ℕ → Query
+  bits : CodecName → Query
+  tag : FieldName → Query
 
 -- a command
 pub data Order : Type 0 where
@@ -60,13 +71,23 @@ number k = next numeral k
 abbrev bytes : {Y : Type 0} → (List ℕ → List (List ℕ) → Option Y) → List (List ℕ) → Option Y
 bytes k = next hexed k
 
+-- a word that is a number, as a value of the codec
+abbrev pub value-word : CodecName → List ℕ → Option Value
+value-word k word = bound (numeral word) (fitting k)
+
 -- the command of this name without state, where the words fit it
 abbrev pub query-named : List ℕ → List (List ℕ) → Option Query
 query-named name args =
     cond (sameBytes name (codes "width")) (number (λ max. end (width max)) args) (
     cond (sameBytes name (codes "encode-len")) (number (λ len. number (λ w. end (encode-len len w))) args) (
     cond (sameBytes name (codes "decode-len")) (bytes (λ bs. number (λ w. end (decode-len bs w))) args) (
-    None)))
+    cond (sameBytes name (codes "keccak")) (bytes (λ bs. end (keccak bs)) args) (
+    cond (sameBytes name (codes "items")) (next unit-named (λ u. bytes (λ bs. end (items u bs))) args) (
+    cond (sameBytes name (codes "encode")) (next codec-named (λ k. next (value-word k) (λ v. end (encode v))) args) (
+    cond (sameBytes name (codes "decode")) (next codec-named (λ k. bytes (λ bs. end (decode k bs))) args) (
+    cond (sameBytes name (codes "bits")) (next codec-named (λ k. end (bits k)) args) (
+    cond (sameBytes name (codes "tag")) (next field-named (λ f. end (tag f)) args) (
+    None)))))))))
 
 -- the command of this name, where the words fit it
 abbrev pub order-named : List ℕ → List (List ℕ) → Option Order

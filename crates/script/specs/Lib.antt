@@ -1,5 +1,3 @@
+pub mod Named
 pub mod Language
 pub mod Meaning
-pub mod Texts
-pub mod Answers
-pub mod Replies

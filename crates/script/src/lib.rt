@@ -1,7 +1,4 @@
-// The script language: a line as a command, and the answer of each command.
-pub mod answer;
+// The script language: a line as a command.
 pub mod command;
-pub mod leaves;
+pub mod names;
 pub mod parse;
-pub mod respond;
-mod write;

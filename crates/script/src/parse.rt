@@ -4,11 +4,16 @@ ghost use Rattle.std.specs.Options.{mapped};
 ghost use Rattle.scan.specs.Hex.{hexed, bytes-of};
 ghost use Rattle.scan.specs.Numbers.{numeral};
 ghost use Rattle.scan.specs.Words.{left};
-ghost use Rattle.script.specs.Language.{read, commented, order-named, query-named, taken, ended};
+ghost use Rattle.script.specs.Language.{read, commented, order-named, query-named, taken, ended, value-word};
 ghost use Rattle.script.specs.Meaning.{asks-of, order-of, query-of};
+ghost use Rattle.script.specs.Named.{unit-named, field-named, codec-named};
+use crate::command::CodecName;
 use crate::command::Command;
+use crate::command::FieldName;
 use crate::command::Leaf;
 use crate::command::Line;
+use crate::command::UnitName;
+use crate::command::Value;
 use scan::hex::Hex;
 use scan::numbers;
 use scan::words::Words;
@@ -68,6 +73,15 @@ fn leaf_front<'a>(name: &str, words: &mut Words<'a>) -> Option<Leaf<'a>>
         "width" => Some(Leaf::Width(number(words)?)),
         "encode-len" => Some(Leaf::EncodeLen(number(words)?, number(words)?)),
         "decode-len" => Some(Leaf::DecodeLen(bytes(words)?, number(words)?)),
+        "keccak" => Some(Leaf::Keccak(bytes(words)?)),
+        "items" => Some(Leaf::Items(unit(words)?, bytes(words)?)),
+        "encode" => {
+            let codec = codec(words)?;
+            Some(Leaf::Encode(value(codec, words)?))
+        }
+        "decode" => Some(Leaf::Decode(codec(words)?, bytes(words)?)),
+        "bits" => Some(Leaf::Bits(codec(words)?)),
+        "tag" => Some(Leaf::Tag(field(words)?)),
         _ => None,
     }
 }
@@ -84,4 +98,32 @@ fn bytes<'a>(words: &mut Words<'a>) -> Option<Hex<'a>>
     ensures { λ r. ⌜ mapped (λ h. (bytes-of h, left (now (words .exit)))) r ≡ taken hexed (left (now (words .entry))) ⌝ }
 {
     Hex::bytes(words.next()?)
+}
+
+// The next word as the name of a unit.
+fn unit(words: &mut Words<'_>) -> Option<UnitName>
+    ensures { λ r. ⌜ mapped (λ u. (u, left (now (words .exit)))) r ≡ taken unit-named (left (now (words .entry))) ⌝ }
+{
+    UnitName::named(words.next()?)
+}
+
+// The next word as the name of a field.
+fn field(words: &mut Words<'_>) -> Option<FieldName>
+    ensures { λ r. ⌜ mapped (λ f. (f, left (now (words .exit)))) r ≡ taken field-named (left (now (words .entry))) ⌝ }
+{
+    FieldName::named(words.next()?)
+}
+
+// The next word as the name of a codec.
+fn codec(words: &mut Words<'_>) -> Option<CodecName>
+    ensures { λ r. ⌜ mapped (λ k. (k, left (now (words .exit)))) r ≡ taken codec-named (left (now (words .entry))) ⌝ }
+{
+    CodecName::named(words.next()?)
+}
+
+// The next word as a value of the codec.
+fn value(codec: CodecName, words: &mut Words<'_>) -> Option<Value>
+    ensures { λ r. ⌜ mapped (λ v. (v, left (now (words .exit)))) r ≡ taken (value-word codec) (left (now (words .entry))) ⌝ }
+{
+    Value::fitting(codec, number(words)?)
 }

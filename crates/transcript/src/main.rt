@@ -1,6 +1,6 @@
 // Reads a script from standard input, and writes the answer line of each command.
+use replies::respond::respond;
 use scan::lines::Lines;
-use script::respond::respond;
 use std::io;
 use std::io::Read;
 use std::io::Write;

@@ -1,0 +1,5 @@
+pub mod Texts
+pub mod Responses
+pub mod Answers
+pub mod Codings
+pub mod Replies
