@@ -1,0 +1,4 @@
+// The rendering of a list of steps as text, line by line, and its Keccak-256.
+mod line;
+mod names;
+pub mod rendering;
