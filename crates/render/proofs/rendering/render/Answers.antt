@@ -19,11 +19,12 @@ loop-position-again g c =
     let d = c .loop-position .depth in
     let s = c .index-steps-position .result in
     let l = c .level-of-level .result in
-    let ss = c .args .steps .now in
-    (more (g .S·Sink .holds) _ _ _ _ _ _ _
-     (lines-step w p d l (c .depth-past-depth .result) ss s (c .loop-position-test .taken) (c .index-steps-position .is) (c .level-of-level .ensures) (c .depth-past-depth .ensures))
-     (c .loop-position .inv .0) (c .put-line .ensures),
-     omega (arith, c .level-of-level .ensures, level-le (s .hierarchy) d, c .depth-past-depth .ensures, after-le (s .hierarchy) l, c .loop-position .inv .1))
+    let ss = c .args .steps .now in (
+      more (g .S·Sink .holds) _ _ _ _ _ _ _
+          (lines-step w p d l (c .depth-past-depth .result) ss s (c .loop-position-test .taken) (c .index-steps-position .is) (c .level-of-level .ensures) (c .depth-past-depth .ensures))
+          (c .loop-position .inv .0) (c .put-line .ensures),
+      omega (arith, c .level-of-level .ensures, level-le (s .hierarchy) d, c .depth-past-depth .ensures, after-le (s .hierarchy) l, c .loop-position .inv .1),
+    )
 
 pub returns : need.returns
 unfolding rendering
