@@ -1,22 +1,16 @@
--- Parts of equal lists are equal where their lengths are known.
-use mathlib.Core.Bool.{true, _&&_}
+-- Version, name and hash read back from an identifier and a seed.
+use mathlib.Core.Bool.{true}
 use mathlib.Core.List.{List, [], _∷_, _++_}
-use mathlib.Core.Path.{_≡_, refl, sym, ap, _∙_}
-use Prim.Native.Nat.{ℕ, _+_, _-_, _≤_}
+use mathlib.Core.Path.{_≡_, sym, ap, _∙_}
+use Prim.Native.Nat.{ℕ, _-_, _≤_}
 use native.Mathlib.Omega.{arith}
-use lib.Dec.{leb}
-use lib.ListN.{length, take, drop, replicate, getD}
-use Rattle.std.proofs.shelf.Lists.{take-at, drop-at, append-assoc, length-append, length-replicate, same-from-push, nil-from-length}
+use lib.ListN.{length, drop, replicate, getD}
+use Rattle.std.proofs.shelf.Lists.{append-assoc, length-append, length-replicate, same-from-push, nil-from-length}
 use Rattle.std.proofs.shelf.Ways.{tells}
+use Rattle.digits.proofs.Splitting.{split-same}
 use Rattle.domain_separator.specs.Identifiers.{identifier, is-name}
 use Rattle.domain_separator.specs.Seeds.{seed}
 use Rattle.domain_separator.specs.Laws.{Identifiers-tell, Seeds-tell, Source, seed-from}
-
-pub split-same : (a b x y : List ℕ) → length a ≡ length b → a ++ x ≡ b ++ y → (a ≡ b) × (x ≡ y)
-split-same a b x y l e = (
-  sym (take-at a x (length a) refl) ∙ ap (take (length a)) e ∙ take-at b y (length a) (sym l),
-  sym (drop-at a x (length a) refl) ∙ ap (drop (length a)) e ∙ drop-at b y (length a) (sym l),
-)
 
 short : (n : List ℕ) → is-name n ≡ true → length n ≤ 62
 short n h = grind (arith, tells)
