@@ -21,19 +21,24 @@ put-after front ys n k t m l e =
 pub is-named : (n : List ℕ) → 1 ≤ length n → length n ≤ 62 → is-name n ≡ true
 is-named n some few = grind (arith, tells)
 
-pub identifier-laid : (v : ℕ) (n xs : List ℕ) (k : ℕ) → xs ≡ n → k ≡ length n → length n ≤ 62 → set (putMid 1 k (v ∷ replicate 63 0) xs) 63 (length n) ≡ identifier v n
-unfolding identifier
-identifier-laid v n xs k same e few =
-    let zeros : List ℕ = replicate (62 - length n) 0 in
-    let left : 63 - k ≡ (62 - length n) + 1 = omega arith in
-    let long : length (v ∷ (n ++ zeros)) ≡ 63 = simp (length-append, length-replicate) (omega arith) in
-    ap (λ l. set l 63 (length n))
-    (ap (putMid 1 k (v ∷ replicate 63 0)) same
-    ∙ put-after (v ∷ []) n 1 k 63 ((62 - length n) + 1) refl left
-    ∙ ap (λ z. v ∷ (n ++ z)) (sym (replicate-more (62 - length n) 0))
-    ∙ ap (λ l. v ∷ l) (sym (append-assoc n zeros (0 ∷ []))))
-    ∙ set-at (v ∷ (n ++ zeros)) 0 [] (length n) 63 long
-    ∙ ap (λ l. v ∷ l) (append-assoc n zeros (length n ∷ []))
+module _ (v : ℕ) (n : List ℕ) (few : length n ≤ 62) where
+  abbrev zeros : List ℕ
+  zeros = replicate (62 - length n) 0
+
+  named : (k : ℕ) → k ≡ length n → putMid 1 k (v ∷ replicate 63 0) n ≡ v ∷ ((n ++ zeros) ++ 0 ∷ [])
+  named k e =
+      let left : 63 - k ≡ (62 - length n) + 1 = omega arith in
+      put-after (v ∷ []) n 1 k 63 ((62 - length n) + 1) refl left
+      ∙ ap (λ z. v ∷ (n ++ z)) (sym (replicate-more (62 - length n) 0)) ∙ ap (λ l. v ∷ l) (sym (append-assoc n zeros (0 ∷ [])))
+
+  long : length (v ∷ (n ++ zeros)) ≡ 63
+  long = simp (length-append, length-replicate) (omega arith)
+
+  pub identifier-laid : (xs : List ℕ) (k : ℕ) → xs ≡ n → k ≡ length n → set (putMid 1 k (v ∷ replicate 63 0) xs) 63 (length n) ≡ identifier v n
+  unfolding identifier
+  identifier-laid xs k same e =
+      ap (λ l. set (putMid 1 k (v ∷ replicate 63 0) l) 63 (length n)) same ∙ ap (λ l. set l 63 (length n)) (named k e)
+      ∙ set-at (v ∷ (n ++ zeros)) 0 [] (length n) 63 long ∙ ap (λ l. v ∷ l) (append-assoc n zeros (length n ∷ []))
 
 module _ (a b : List ℕ) (la : length a ≡ 64) (lb : length b ≡ 32) where
   ab-long : length (a ++ b) ≡ 96

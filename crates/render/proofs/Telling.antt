@@ -30,8 +30,8 @@ tag-tell a b r s ha hb e =
     let same = code-tell (t .code) (u .code) (t .modulus) (u .modulus) (t .degree) (u .degree) (t .basis) (u .basis) r s e in
     let other : plain (t .code) ≡ true → plain (u .code) ≡ true = λ p. ap plain (sym same) ∙ p in
     let v = values-tell (t .modulus) (u .modulus) (t .degree) (u .degree) (t .basis) (u .basis) r s (ha .modulus) (hb .modulus) (ha .degree) (hb .degree) (ha .whole ∙ sym (hb .whole)) (ha .bytes) (hb .bytes) (t .code)
-        (λ p. (t .«no_modulus» p ∙ sym (u .«no_modulus» (other p)), t .«no_degree» p ∙ sym (u .«no_degree» (other p)), t .«no_basis» p ∙ sym (u .«no_basis» (other p))))
-        (e ∙ ap (λ c. tag-text-by c (u .modulus) (u .degree) (u .basis) ++ s) (sym same)) in
+    (λ p. (t .«no_modulus» p ∙ sym (u .«no_modulus» (other p)), t .«no_degree» p ∙ sym (u .«no_degree» (other p)), t .«no_basis» p ∙ sym (u .«no_basis» (other p))))
+    (e ∙ ap (λ c. tag-text-by c (u .modulus) (u .degree) (u .basis) ++ s) (sym same)) in
     (tags.same-fields t u same (v .0) (v .1) (v .2), v .3)
 
 -- a step, and what follows it
@@ -80,7 +80,7 @@ lines-tell w p d (x ∷ xs) (y ∷ ys) r s l hx hy e =
     let dx = deeper d (shown x) in
     let dy = deeper d (shown y) in
     let here = line-tell w p (level (x .hierarchy) d) (level (y .hierarchy) d) x y (lines w (p + 1) dx xs ++ r) (lines w (p + 1) dy ys ++ s) (hx .0) (hy .0)
-        (sym (append-assoc (line w p (level (x .hierarchy) d) x) (lines w (p + 1) dx xs) r) ∙ e ∙ append-assoc (line w p (level (y .hierarchy) d) y) (lines w (p + 1) dy ys) s) in
+    (sym (append-assoc (line w p (level (x .hierarchy) d) x) (lines w (p + 1) dx xs) r) ∙ e ∙ append-assoc (line w p (level (y .hierarchy) d) y) (lines w (p + 1) dy ys) s) in
     let deep : dy ≡ dx = ap (deeper d) (sym (here .0)) in
     let rest = lines-tell w (p + 1) dx xs ys r s (omega arith) (hx .1) (hy .1) (here .1 ∙ ap (λ k. lines w (p + 1) k ys ++ s) deep) in
     (λ i. here .0 i ∷ rest .0 i, rest .1)
@@ -121,8 +121,8 @@ lines-unnamed w p d (x ∷ xs) (y ∷ ys) e =
     let same : shown x ≡ shown y = ap (λ l. getD l 0 (shown x)) e in
     let rest = lines-unnamed w (p + 1) (deeper d (shown x)) xs ys (ap (drop 1) e) in
     ap₂ _++_
-      (line-shown w p (level (x .hierarchy) d) x ∙ ap (λ z. shown-line w p (level (z .hierarchy) d) z) same ∙ sym (line-shown w p (level (y .hierarchy) d) y))
-      (rest ∙ ap (λ z. lines w (p + 1) (deeper d z) ys) same)
+    (line-shown w p (level (x .hierarchy) d) x ∙ ap (λ z. shown-line w p (level (z .hierarchy) d) z) same ∙ sym (line-shown w p (level (y .hierarchy) d) y))
+    (rest ∙ ap (λ z. lines w (p + 1) (deeper d z) ys) same)
 
 unnamed : (xs ys : List Interaction) → map shown xs ≡ map shown ys → rendering xs ≡ rendering ys
 unfolding rendering

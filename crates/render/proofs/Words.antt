@@ -71,7 +71,7 @@ clash xs ys apart e = absurd (eqb-false (getD xs 0 0) (getD ys 0 0) apart (ap (�
 numbered : (word : List ℕ) (m n : ℕ) (r s : List ℕ) → m < 2 ^ 64 → n < 2 ^ 64 → (word ++ (decimal m ++ codes ")")) ++ 32 ∷ r ≡ (word ++ (decimal n ++ codes ")")) ++ 32 ∷ s → (m ≡ n) × (r ≡ s)
 numbered word m n r s hm hn e =
     let flat : (k : ℕ) (l : List ℕ) → (word ++ (decimal k ++ codes ")")) ++ 32 ∷ l ≡ word ++ (decimal k ++ 41 ∷ 32 ∷ l) =
-        λ k l. append-assoc word (decimal k ++ codes ")") (32 ∷ l) ∙ ap (λ t. word ++ t) (append-assoc (decimal k) (codes ")") (32 ∷ l)) in
+    λ k l. append-assoc word (decimal k ++ codes ")") (32 ∷ l) ∙ ap (λ t. word ++ t) (append-assoc (decimal k) (codes ")") (32 ∷ l)) in
     let past = append-cancel-left word _ _ (sym (flat m r) ∙ e ∙ flat n s) in
     let both = decimal-tell m n 41 (32 ∷ r) (32 ∷ s) hm hn (λ d. omega (arith, d .0)) past in
     (both .0, ap (drop 1) (both .1))

@@ -3,3 +3,5 @@ pub mod laws;
 mod line;
 mod names;
 pub mod rendering;
+#[cfg(test)]
+mod tests;

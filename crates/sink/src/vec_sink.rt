@@ -4,6 +4,7 @@ ghost use mathlib.Core.List.{List, []};
 ghost use mathlib.Core.Path.{_≡_};
 ghost use Prim.Native.Nat.{ℕ};
 ghost use Rattle.std.specs.Of.Vec.{vec-items};
+ghost use Rattle.std.specs.Results.{isOk};
 ghost use Rattle.std.specs.Vec.{made};
 ghost use Rattle.sink.specs.Keeping.{Keeps};
 use crate::sink::Sink;
@@ -19,7 +20,8 @@ pub struct VecSink {
 
 impl VecSink {
     pub fn new(heap: Global) -> VecSink
-        ensures { λ r. ⌜ Keeps r [] ⌝ }
+        ensures empty { λ r. ⌜ Keeps r [] ⌝ }
+        ensures ready { λ r. ⌜ isOk (r .outcome) ≡ true ⌝ }
     {
         VecSink {
             bytes: Vec::new(heap),

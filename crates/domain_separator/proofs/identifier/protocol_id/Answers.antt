@@ -13,5 +13,5 @@ pub returns : need.returns
 returns c =
     let v = c .args .version in
     let n = c .args .name .now in
-    ap (λ l. Ok l) (identifier-laid v n _ (1 + length n - 1) (c .copy-from-slice .ensures .after) (omega arith) (omega arith))
+    ap (λ l. Ok l) (identifier-laid v n (omega arith) _ (1 + length n - 1) (c .copy-from-slice .ensures .after) (omega arith))
     ∙ sym (ap (λ b. cond b (Ok (identifier v n)) (Err InvalidName)) (is-named n (omega arith) (omega arith)))

@@ -1,11 +1,9 @@
-use mathlib.Core.Path.{_≡_, ap, _∙_}
+use Prim.Native.Nat.{_-_}
 use native.Mathlib.Omega.{arith}
-use lib.ListN.{length, drop}
-use Rattle.std.specs.Written.{decimal}
-use Rattle.std.proofs.shelf.Lists.{drop-all}
+use lib.ListN.{length}
 use Rattle.sink.proofs.Chain.{same, then, more, done}
-use Rattle.render.specs.Rendering.{lines, rendering}
-use Rattle.render.proofs.Lines.{level-le, after-le, lines-step}
+use Rattle.render.specs.Rendering.{rendering}
+use Rattle.render.proofs.Lines.{level-le, after-le, lines-step, lines-none, lines-wide}
 use Rattle.render.proofs.rendering.render.Needs as need
 
 pub depth-past-depth-requires : need.depth-past-depth-requires
@@ -31,7 +29,6 @@ unfolding rendering
 returns g c =
     let h = g .S·Sink .holds in
     let ss = c .args .steps .now in
-    let width = c .decimal-len-width .ensures ∙ ap (λ k. length (decimal k)) (c .saturating-sub .ensures) in
     then h _ _ _ _ _ (then h _ _ _ _ _ (c .put .ensures) (then h _ _ _ _ _ (c .put-decimal .ensures) (c .put-2 .ensures)))
-    (same h _ _ _ _ (ap (λ w. lines w 0 0 ss) width)
-    (done h _ _ _ _ (ap (lines (c .decimal-len-width .result) (c .loop-position .position) (c .loop-position .depth)) (drop-all (c .loop-position .position) ss (c .loop-position-test .left))) (c .loop-position .inv .0)))
+    (same h _ _ _ _ (lines-wide (c .decimal-len-width .result) (c .saturating-sub .result) (length ss - 1) ss (c .decimal-len-width .ensures) (c .saturating-sub .ensures))
+    (done h _ _ _ _ (lines-none (c .decimal-len-width .result) (c .loop-position .position) (c .loop-position .depth) ss (c .loop-position-test .left)) (c .loop-position .inv .0)))
