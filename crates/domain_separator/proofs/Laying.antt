@@ -1,15 +1,14 @@
 -- Parts written one after another into an array of zeros.
-use mathlib.Core.Bool.{true, cond}
+use mathlib.Core.Bool.{true}
 use mathlib.Core.List.{List, [], _∷_, _++_}
 use mathlib.Core.Path.{_≡_, refl, sym, ap, ap₂, _∙_}
 use Prim.Native.Nat.{ℕ, _+_, _-_, _≤_}
 use native.Mathlib.Omega.{arith}
 use borrow.Rule.Slice.PartMut.{putMid}
-use lib.ListN.{length, set, take, drop, replicate}
+use lib.ListN.{length, set, drop, replicate}
 use Rattle.std.proofs.shelf.Lists.{take-at, drop-at, drop-replicate, set-at, append-assoc, length-append, length-replicate, replicate-more}
 use Rattle.std.proofs.shelf.Ways.{tells}
 use Rattle.domain_separator.specs.Identifiers.{identifier, is-name}
-use Rattle.domain_separator.specs.Seeds.{seed}
 
 -- k bytes at n, where zeros begin, of which t - k are left
 pub put-after : (front ys : List ℕ) (n k t m : ℕ) → length front ≡ n → t - k ≡ m → putMid n k (front ++ replicate t 0) ys ≡ (front ++ ys) ++ replicate m 0
@@ -25,11 +24,13 @@ module _ (v : ℕ) (n : List ℕ) (few : length n ≤ 62) where
   abbrev zeros : List ℕ
   zeros = replicate (62 - length n) 0
 
+  last : n ++ replicate ((62 - length n) + 1) 0 ≡ (n ++ zeros) ++ 0 ∷ []
+  last = ap (λ z. n ++ z) (sym (replicate-more (62 - length n) 0)) ∙ sym (append-assoc n zeros (0 ∷ []))
+
   named : (k : ℕ) → k ≡ length n → putMid 1 k (v ∷ replicate 63 0) n ≡ v ∷ ((n ++ zeros) ++ 0 ∷ [])
   named k e =
       let left : 63 - k ≡ (62 - length n) + 1 = omega arith in
-      put-after (v ∷ []) n 1 k 63 ((62 - length n) + 1) refl left
-      ∙ ap (λ z. v ∷ (n ++ z)) (sym (replicate-more (62 - length n) 0)) ∙ ap (λ l. v ∷ l) (sym (append-assoc n zeros (0 ∷ [])))
+      put-after (v ∷ []) n 1 k 63 ((62 - length n) + 1) refl left ∙ ap (λ l. v ∷ l) last
 
   long : length (v ∷ (n ++ zeros)) ≡ 63
   long = simp (length-append, length-replicate) (omega arith)

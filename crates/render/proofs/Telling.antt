@@ -1,8 +1,8 @@
 -- The steps of a rendering, up to their type names, can be read back from it.
 use mathlib.Core.Bool.{true}
 use mathlib.Core.List.{List, [], _∷_, _++_, map}
-use mathlib.Core.Path.{_≡_, refl, sym, ap, ap₂, subst, _∙_}
-use Prim.Native.Nat.{ℕ, _+_, _-_, _^_, _<_, _≤_}
+use mathlib.Core.Path.{_≡_, refl, sym, ap, ap₂, _∙_}
+use Prim.Native.Nat.{ℕ, _+_, _-_, _^_, _<_}
 use native.Mathlib.Omega.{arith}
 use lib.Chars.{codes}
 use lib.ListN.{length, getD, drop}
@@ -18,7 +18,6 @@ use Rattle.step.proofs.Tags as tags
 use Rattle.step.proofs.Texts as texts
 use Rattle.step.specs.declared.interaction.Interaction.{Interaction}
 use Rattle.step.specs.declared.text.Text.{Text}
-use Rattle.step.specs.declared.type_tag.TypeTag.{TypeTag}
 use Rattle.render.specs.Rendering.{hierarchy-name, kind-name, length-text, tag-text, tag-text-by, step-text, line, lines, level, depth-after, header, rendering}
 use Rattle.render.specs.Laws.{Shown, shown, Stored, Steps, Renderings-tell}
 use Rattle.render.proofs.Words.{hierarchy-tell, hierarchy-no-space, kind-tell, length-tell, code-tell, values-tell}

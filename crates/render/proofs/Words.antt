@@ -1,6 +1,6 @@
 -- Each part of a step can be read back from the beginning of a text.
 use mathlib.Core.Bool.{true, false, cond}
-use mathlib.Core.List.{List, [], _∷_, _++_}
+use mathlib.Core.List.{List, _∷_, _++_}
 use mathlib.Core.Path.{_≡_, refl, sym, ap, _∙_}
 use Prim.Native.Nat.{ℕ, _^_, _<_}
 use native.Mathlib.Omega.{arith}
@@ -12,7 +12,7 @@ use Rattle.digits.specs.Digits.{Bytes as Are-bytes}
 use Rattle.std.specs.Written.{decimal}
 use Rattle.std.proofs.shelf.Lists.{append-cancel-left, append-assoc}
 use Rattle.sink.specs.Writing.{hex-text}
-use Rattle.sink.proofs.Reading.{Digit, decimal-tell, hex-tell}
+use Rattle.sink.proofs.Reading.{decimal-tell, hex-tell}
 use Rattle.step.specs.Steps.{length-count}
 use Rattle.step.specs.TagCodes.{plain}
 use Rattle.step.specs.declared.interaction.Hierarchy.{Hierarchy}

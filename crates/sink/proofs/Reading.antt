@@ -2,7 +2,7 @@
 use mathlib.Core.Bool.{false}
 use mathlib.Core.List.{List, [], _∷_, _++_}
 use mathlib.Core.Path.{_≡_, refl, sym, ap}
-use Prim.Native.Nat.{ℕ, zero, suc, _+_, _/_, _%_, _^_, _≤_, _<_}
+use Prim.Native.Nat.{ℕ, zero, suc, _+_, _/_, _%_, _^_, _<_}
 use native.Mathlib.Omega.{arith}
 use lib.Chars.{codes}
 use lib.ListN.{length, getD, drop}
@@ -11,7 +11,7 @@ use Rattle.std.specs.Written.{decimal, glyph}
 use Rattle.std.specs.shelf.Lists.{All}
 use Rattle.std.proofs.shelf.Decimals.{decimal-by-steps, same-from-decimal}
 use Rattle.std.proofs.shelf.Ways.{tells}
-use Rattle.sink.specs.Writing.{repeated, hex-pair, hex-text}
+use Rattle.sink.specs.Writing.{repeated, hex-text}
 
 abbrev pub Digit : ℕ → Type 0
 Digit d = (47 < d) × (d < 58)

@@ -1,4 +1,4 @@
-use mathlib.Core.Path.{ap, _∙_}
+use mathlib.Core.Path.{ap}
 use lib.ListN.{length}
 use Rattle.std.specs.Written.{decimal}
 use Rattle.sink.proofs.Chain.{same, then}

@@ -1,4 +1,3 @@
-use mathlib.Core.List.{_++_}
 use Prim.Native.Nat.{_≤_}
 use lib.ListN.{drop}
 use Rattle.sink.proofs.Chain.{Leaves}

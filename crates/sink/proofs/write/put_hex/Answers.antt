@@ -1,7 +1,5 @@
 use mathlib.Core.List.{[], _∷_}
-use mathlib.Core.Path.{ap, _≡_}
-use lib.ListN.{getD, drop}
-use Prim.Native.Nat.{_+_}
+use mathlib.Core.Path.{ap}
 use Rattle.std.proofs.shelf.Lists.{drop-more, drop-all}
 use Rattle.sink.specs.Writing.{hex-text}
 use Rattle.sink.proofs.Chain.{same, more, done}

@@ -1,4 +1,3 @@
-use mathlib.Core.List.{_++_}
 use mathlib.Core.Path.{_≡_, ap}
 use Prim.Native.Nat.{suc, _+_, _-_}
 use native.Mathlib.Omega.{arith}
