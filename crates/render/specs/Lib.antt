@@ -1,0 +1,2 @@
+pub mod Rendering
+pub mod Laws
