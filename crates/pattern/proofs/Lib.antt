@@ -4,3 +4,5 @@ pub mod Walking
 pub mod Playing
 pub mod Opening
 pub mod Drafting
+pub mod Complete
+pub mod Sound

@@ -4,3 +4,4 @@ pub mod Walk
 pub mod Patterns
 pub mod Taken
 pub mod Plays
+pub mod Nests

@@ -2,6 +2,7 @@
 pub mod candidate;
 pub mod draft;
 pub mod interface;
+pub mod laws;
 pub mod player;
 pub mod row;
 pub mod scopes;
