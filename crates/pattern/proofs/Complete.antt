@@ -1,5 +1,5 @@
 -- Steps that nest, and for which there are places, are all taken, and leave open what was open.
-use mathlib.Core.Bool.{Bool, true, false, cond, _&&_}
+use mathlib.Core.Bool.{true, cond}
 use mathlib.Core.List.{List, [], _∷_, _++_}
 use mathlib.Core.Path.{_≡_, refl, sym, ap, subst, _∙_}
 use Prim.Native.Nat.{ℕ, _+_, _≤_, _<_}
@@ -10,21 +10,18 @@ use Rattle.std.proofs.shelf.Lists.{getD-append-left, getD-push}
 use Rattle.std.specs.declared.option.Option.{Option}
 use Rattle.std.specs.declared.option.Option.the-variants.{Some, None}
 use Rattle.std.specs.declared.result.Result.the-variants.{Ok, Err}
-use Rattle.step.specs.declared.interaction.Hierarchy.{Hierarchy}
 use Rattle.step.specs.declared.interaction.Hierarchy.the-variants.{Atomic, Begin, End}
 use Rattle.step.specs.declared.interaction.Interaction.{Interaction}
 use Rattle.error.specs.declared.TranscriptError.the-variants.{MismatchedBeginEnd, InvalidKind, PatternFull}
-use Rattle.step.specs.Steps.{admits, closes, same-hierarchy, same-but-hierarchy}
-use Rattle.pattern.specs.Nests.{Allowed, Nests, empty, leaf, scope}
+use Rattle.step.specs.Steps.{closes}
+use Rattle.pattern.specs.Nests.{Allowed, Nests, empty, leaf, scope, closer}
 use Rattle.pattern.specs.Patterns.{Low}
 use Rattle.pattern.specs.Rows.{then}
-use Rattle.pattern.specs.Walk.{Open, nested, closed, structure, placed, met, ended, checked, runs, opens, step-at, no-step}
+use Rattle.pattern.specs.Walk.{nested, placed, met, ended, checked, runs, step-at, no-step}
+use Rattle.pattern.proofs.Agreeing.{allowed-admits, closer-closes}
 use Rattle.pattern.proofs.Nesting.{passed}
 use Rattle.pattern.proofs.Opening.{runs-more, runs-none, runs-append, checked-opens}
 use Rattle.pattern.proofs.Stacks.{low-more}
-
-clash : {A : Type 0} → _≡_ {A = ℕ} 0 1 → A
-clash e = absurd (omega arith)
 
 -- the open openers as steps, innermost first
 abbrev pub stack : List Interaction → List ℕ → List Interaction
@@ -54,7 +51,7 @@ length-push before s = length-append before (s ∷ [])
 
 nested-allowed : (before : List Interaction) (bs : List ℕ) (s : Interaction) (o : List ℕ) → Allowed (innermost (stack before bs)) s → Ok o ≡ nested before bs s o
 nested-allowed before [] s o a = refl
-nested-allowed before (b ∷ bs) s o a = sym (ap (λ v. cond v (Ok o) (Err (InvalidKind b (length before)))) a)
+nested-allowed before (b ∷ bs) s o a = sym (ap (λ v. cond v (Ok o) (Err (InvalidKind b (length before)))) (allowed-admits (step-at before b) s a))
 
 place : (n : ℕ) (o : List ℕ) → n < 64 → Ok o ≡ placed n (Ok o)
 place n o lt = sym (ap (λ v. cond v (Ok o) (Err PatternFull)) (lt-ltb n 64 lt))
@@ -70,15 +67,6 @@ module _ (before : List Interaction) (bs : List ℕ) (s : Interaction) (free : l
   met-closer b h c =
       passed before (b ∷ bs) s End h bs (Ok bs) (sym (ap (λ v. cond v (Ok bs) (Err (MismatchedBeginEnd b (length before)))) c)) (place (length before) bs free)
 
-end-only : (h : Hierarchy) (more : Bool) → (same-hierarchy h End && more) ≡ true → h ≡ End
-end-only Atomic more e = clash (let z : false ≡ true = e in cc)
-end-only Begin more e = clash (let z : false ≡ true = e in cc)
-end-only End more e = refl
-
-closer-ends : (s opener : Interaction) → closes s opener ≡ true → s .hierarchy ≡ End
-unfolding closes
-closer-ends s opener e = end-only (s .hierarchy) (same-hierarchy (opener .hierarchy) Begin && same-but-hierarchy s opener) e
-
 low-push : (before : List Interaction) (s : Interaction) (bs : List ℕ) → Low (length before) bs → Low (length (before ++ s ∷ [])) bs
 low-push before s bs low = let long = length-push before s in low-more (length before) (length (before ++ s ∷ [])) bs (omega arith) low
 
@@ -86,6 +74,7 @@ low-push before s bs low = let long = length-push before s in low-more (length b
 taken : (before : List Interaction) (bs : List ℕ) (s : Interaction) (ss : List Interaction) (o : List ℕ) → met before bs s ≡ Ok o → runs before bs (s ∷ ss) ≡ runs (before ++ s ∷ []) o ss
 taken before bs s ss o m = runs-more before bs s ss ∙ ap (λ r. then r (λ q. runs (before ++ s ∷ []) q ss)) m
 
+-- the steps are all taken wherever `p` is the innermost opener and there are places
 abbrev Takes : Option Interaction → List Interaction → Type 0
 Takes p ss = (before : List Interaction) (bs : List ℕ) → innermost (stack before bs) ≡ p → Low (length before) bs → length before + length ss ≤ 64 → runs before bs ss ≡ Ok bs
 
@@ -95,10 +84,11 @@ takes-leaf p s ss h a go before bs is low fits =
     taken before bs s ss bs (met-leaf before bs s (omega arith) h (subst (λ q. Allowed q s) (sym is) a))
     ∙ go (before ++ s ∷ []) bs (ap innermost (stack-kept before (s ∷ []) bs low) ∙ is) (low-push before s bs low) (omega arith)
 
-module _ (p : Option Interaction) (b e : Interaction) (inner ss : List Interaction) (h : b .hierarchy ≡ Begin) (a : Allowed p b) (in′ : Takes (Some b) inner) (c : closes e b ≡ true) (go : Takes p ss) where
-  takes-scope : Takes p (b ∷ inner ++ e ∷ ss)
+module _ (p : Option Interaction) (b : Interaction) (inner ss : List Interaction) (h : b .hierarchy ≡ Begin) (a : Allowed p b) (in′ : Takes (Some b) inner) (go : Takes p ss) where
+  takes-scope : Takes p (b ∷ inner ++ closer b ∷ ss)
   takes-scope before bs is low fits =
       let k = length before in
+      let e = closer b in
       let first = before ++ b ∷ [] in
       let most = first ++ inner in
       let all = most ++ e ∷ [] in
@@ -110,18 +100,18 @@ module _ (p : Option Interaction) (b e : Interaction) (inner ss : List Interacti
       let low-most : Low (length most) (k ∷ bs) = low-more (length first) (length most) (k ∷ bs) (omega arith) low-first in
       let is-first : stack first (k ∷ bs) ≡ b ∷ stack before bs = stack-push before b bs low in
       let is-most : stack most (k ∷ bs) ≡ b ∷ stack before bs = stack-kept first inner (k ∷ bs) low-first ∙ is-first in
-      let opener : step-at most k ≡ b = let q : stack most (k ∷ bs) ≡ b ∷ stack before bs = is-most in cc in
+      let opener : step-at most k ≡ b = cc in
       let is-all : stack all bs ≡ stack before bs = stack-kept most (e ∷ []) bs (low-most .1) ∙ stack-kept first inner bs (low-first .1) ∙ stack-kept before (b ∷ []) bs low in
       taken before bs b (inner ++ e ∷ ss) (k ∷ bs) (met-opener before bs b (omega arith) h (subst (λ q. Allowed q b) (sym is) a))
       ∙ runs-append first (k ∷ bs) inner (e ∷ ss)
       ∙ ap (λ r. then r (λ o. runs most o (e ∷ ss))) (in′ first (k ∷ bs) (ap innermost is-first) low-first (omega arith))
-      ∙ taken most (k ∷ bs) e ss bs (met-closer most bs e (omega arith) k (closer-ends e b c) (ap (closes e) opener ∙ c))
+      ∙ taken most (k ∷ bs) e ss bs (met-closer most bs e (omega arith) k refl (ap (closes e) opener ∙ closer-closes b h))
       ∙ go all bs (ap innermost is-all ∙ is) (low-push most e bs (low-most .1)) (omega arith)
 
 nests-takes : {p : Option Interaction} {ss : List Interaction} → Nests p ss → Takes p ss
 nests-takes empty before bs is low fits = runs-none before bs
 nests-takes (leaf {within = p} {s = s} {rest = ss} h a n) before bs is low fits = takes-leaf p s ss h a (nests-takes n) before bs is low fits
-nests-takes (scope {within = p} {opener = b} {inner = inner} {rest = ss} e h a m c n) before bs is low fits = takes-scope p b e inner ss h a (nests-takes m) c (nests-takes n) before bs is low fits
+nests-takes (scope {within = p} {opener = b} {inner = inner} {rest = ss} h a m n) before bs is low fits = takes-scope p b inner ss h a (nests-takes m) (nests-takes n) before bs is low fits
 
 pub complete : (ss : List Interaction) → Nests None ss → length ss ≤ 64 → checked ss ≡ Ok ss
 complete ss n few = checked-opens ss ∙ ap (λ m. then m (λ o. ended ss o)) (nests-takes n [] [] refl tt (omega arith))

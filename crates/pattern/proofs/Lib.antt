@@ -4,5 +4,6 @@ pub mod Walking
 pub mod Playing
 pub mod Opening
 pub mod Drafting
+pub mod Agreeing
 pub mod Complete
 pub mod Sound

@@ -2,14 +2,12 @@
 use mathlib.Core.Bool.{Bool, true, false, cond}
 use mathlib.Core.List.{List, [], _∷_, _++_}
 use mathlib.Core.Path.{_≡_, refl, sym, ap, subst, _∙_}
-use Prim.Native.Nat.{ℕ, _+_, _≤_, _<_}
+use Prim.Native.Nat.{ℕ, _+_, _≤_}
 use native.Mathlib.Omega.{arith}
-use lib.ListN.{length, length-append}
+use lib.ListN.{length}
 use Rattle.std.proofs.shelf.Lists.{append-assoc}
 use Rattle.std.specs.Results.{isOk}
-use Rattle.std.specs.declared.option.Option.{Option}
 use Rattle.std.specs.declared.option.Option.the-variants.{Some, None}
-use Rattle.std.specs.declared.result.Result.{Result}
 use Rattle.std.specs.declared.result.Result.the-variants.{Ok, Err}
 use Rattle.step.specs.declared.interaction.Hierarchy.{Hierarchy}
 use Rattle.step.specs.declared.interaction.Hierarchy.the-variants.{Atomic, Begin, End}
@@ -17,9 +15,10 @@ use Rattle.step.specs.declared.interaction.Interaction.{Interaction}
 use Rattle.error.specs.declared.TranscriptError.{TranscriptError}
 use Rattle.error.specs.declared.TranscriptError.the-variants.{MismatchedBeginEnd, InvalidKind}
 use Rattle.step.specs.Steps.{admits, closes}
-use Rattle.pattern.specs.Nests.{Allowed, Nests, empty, leaf, scope}
+use Rattle.pattern.specs.Nests.{Allowed, Nests, empty, leaf, scope, closer}
 use Rattle.pattern.specs.Rows.{then}
 use Rattle.pattern.specs.Walk.{Open, nested, closed, structure, met, ended, checked, runs, opens, step-at}
+use Rattle.pattern.proofs.Agreeing.{admits-allowed, closes-closer}
 use Rattle.pattern.proofs.Complete.{stack, innermost, stack-kept, stack-push, length-push}
 use Rattle.pattern.proofs.Nesting.{met-free}
 use Rattle.pattern.proofs.Opening.{Within, runs-more, runs-none, checked-opens, cond-ok, nested-ok, placed-ok, met-within}
@@ -32,11 +31,9 @@ clash e = absurd (omega arith)
 -- the rest of the innermost scope, its closer, and what comes after
 record Scoped (opener : Interaction) (After : List Interaction → Type 0) (ss : List Interaction) : Type 0 where
   inner : List Interaction
-  closer : Interaction
   rest : List Interaction
-  joined : ss ≡ inner ++ closer ∷ rest
+  joined : ss ≡ inner ++ closer opener ∷ rest
   nests : Nests (Some opener) inner
-  closed′ : closes closer opener ≡ true
   after : After rest
 
 abbrev Follows : List Interaction → List Interaction → Type 0
@@ -46,24 +43,22 @@ Follows (b ∷ bs) ss = Scoped b (Follows bs) ss
 follows-leaf : (bs : List Interaction) (s : Interaction) (ss : List Interaction) → s .hierarchy ≡ Atomic → Allowed (innermost bs) s → Follows bs ss → Follows bs (s ∷ ss)
 follows-leaf [] s ss h a f = leaf h a f
 follows-leaf (b ∷ bs) s ss h a f =
-    record { inner = s ∷ f .inner; closer = f .closer; rest = f .rest; joined = ap (λ l. s ∷ l) (f .joined); nests = leaf h a (f .nests); closed′ = f .closed′; after = f .after }
+    record { inner = s ∷ f .inner; rest = f .rest; joined = ap (λ l. s ∷ l) (f .joined); nests = leaf h a (f .nests); after = f .after }
 
 follows-opener : (bs : List Interaction) (s : Interaction) (ss : List Interaction) → s .hierarchy ≡ Begin → Allowed (innermost bs) s → Follows (s ∷ bs) ss → Follows bs (s ∷ ss)
-follows-opener [] s ss h a f = subst (λ l. Nests None (s ∷ l)) (sym (f .joined)) (scope (f .closer) h a (f .nests) (f .closed′) (f .after))
+follows-opener [] s ss h a f = subst (λ l. Nests None (s ∷ l)) (sym (f .joined)) (scope h a (f .nests) (f .after))
 follows-opener (b ∷ bs) s ss h a f =
     let g = f .after in
     record {
-      inner = s ∷ f .inner ++ f .closer ∷ g .inner;
-      closer = g .closer;
+      inner = s ∷ f .inner ++ closer s ∷ g .inner;
       rest = g .rest;
-      joined = ap (λ l. s ∷ l) (f .joined ∙ ap (λ l. f .inner ++ f .closer ∷ l) (g .joined) ∙ sym (append-assoc (f .inner) (f .closer ∷ g .inner) (g .closer ∷ g .rest)));
-      nests = scope (f .closer) h a (f .nests) (f .closed′) (g .nests);
-      closed′ = g .closed′;
+      joined = ap (λ l. s ∷ l) (f .joined ∙ ap (λ l. f .inner ++ closer s ∷ l) (g .joined) ∙ sym (append-assoc (f .inner) (closer s ∷ g .inner) (closer b ∷ g .rest)));
+      nests = scope h a (f .nests) (g .nests);
       after = g .after;
     }
 
 follows-closer : (b : Interaction) (bs : List Interaction) (s : Interaction) (ss : List Interaction) → closes s b ≡ true → Follows bs ss → Follows (b ∷ bs) (s ∷ ss)
-follows-closer b bs s ss c f = record { inner = []; closer = s; rest = ss; joined = refl; nests = empty; closed′ = c; after = f }
+follows-closer b bs s ss c f = record { inner = []; rest = ss; joined = ap (λ x. x ∷ ss) (closes-closer b s c); nests = empty; after = f }
 
 -- ---- what a step that is taken says
 
@@ -73,7 +68,7 @@ cond-true false go o e h = clash cc
 
 nested-says : (before : List Interaction) (bs : List ℕ) (s : Interaction) (go o : List ℕ) → nested before bs s go ≡ Ok o → Allowed (innermost (stack before bs)) s
 nested-says before [] s go o e = tt
-nested-says before (b ∷ bs) s go o e = cond-true (admits (step-at before b) s) go o (InvalidKind b (length before)) e
+nested-says before (b ∷ bs) s go o e = admits-allowed (step-at before b) s (cond-true (admits (step-at before b) s) go o (InvalidKind b (length before)) e)
 
 module _ (before : List Interaction) (s : Interaction) (ss : List Interaction) where
   abbrev Onwards : List ℕ → Type 0

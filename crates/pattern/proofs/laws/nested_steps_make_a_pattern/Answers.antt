@@ -1,4 +1,3 @@
-use mathlib.Core.Bool.{true}
 use mathlib.Core.Path.{_≡_, refl, sym, ap, _∙_}
 use Rattle.error.specs.declared.TranscriptError.{TranscriptError}
 use Rattle.std.specs.Results.{isOk}

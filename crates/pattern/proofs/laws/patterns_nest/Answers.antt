@@ -1,5 +1,4 @@
 use mathlib.Core.Path.{subst, sym}
-use native.Mathlib.Omega.{arith}
 use Prim.Native.Nat.{_≤_}
 use Rattle.pattern.specs.Patterns.{steps}
 use Rattle.pattern.proofs.Sound.{sound, at-most}
