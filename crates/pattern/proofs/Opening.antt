@@ -33,7 +33,7 @@ then-same : {A B : Type 0} (m : Result A TranscriptError) (f g : A → Result B 
 then-same (Ok x) f g h = h x
 then-same (Err e) f g h = refl
 
-runs-more : (before : List Interaction) (bs : List ℕ) (s : Interaction) (ss : List Interaction) → runs before bs (s ∷ ss) ≡ then (met before bs s) (λ o. runs (before ++ s ∷ []) o ss)
+pub runs-more : (before : List Interaction) (bs : List ℕ) (s : Interaction) (ss : List Interaction) → runs before bs (s ∷ ss) ≡ then (met before bs s) (λ o. runs (before ++ s ∷ []) o ss)
 unfolding runs
 runs-more before bs s ss = refl
 
@@ -81,11 +81,11 @@ pub record Within (n : ℕ) (bs : List ℕ) : Type 0 where
 within-more : (n : ℕ) (bs : List ℕ) → Within n bs → Within (n + 1) bs
 within-more n bs w = record { low = low-more n (n + 1) bs (omega arith) (w .low); few = omega (arith, w .few) }
 
-cond-ok : (v : Bool) (go o : List ℕ) (e : TranscriptError) → cond v (Ok go) (Err e) ≡ Ok o → go ≡ o
+pub cond-ok : (v : Bool) (go o : List ℕ) (e : TranscriptError) → cond v (Ok go) (Err e) ≡ Ok o → go ≡ o
 cond-ok true go o e h = cc
 cond-ok false go o e h = clash cc
 
-nested-ok : (before : List Interaction) (bs : List ℕ) (s : Interaction) (go o : List ℕ) → nested before bs s go ≡ Ok o → go ≡ o
+pub nested-ok : (before : List Interaction) (bs : List ℕ) (s : Interaction) (go o : List ℕ) → nested before bs s go ≡ Ok o → go ≡ o
 nested-ok before [] s go o e = cc
 nested-ok before (b ∷ bs) s go o e = cond-ok (admits (step-at before b) s) go o (InvalidKind b (length before)) e
 
@@ -101,11 +101,11 @@ structure-within before bs s Begin o w e =
     (record { low = (omega arith, low-more (length before) (length before + 1) bs (omega arith) (w .low)); few = omega (arith, w .few) })
 structure-within before bs s End o w e = within-more (length before) o (closed-within before bs s o (length before) w e)
 
-placed-ok : (n : ℕ) (r : Open) (o : List ℕ) → placed n r ≡ Ok o → r ≡ Ok o
+pub placed-ok : (n : ℕ) (r : Open) (o : List ℕ) → placed n r ≡ Ok o → r ≡ Ok o
 placed-ok n (Ok b) o e = ap Ok (cond-ok (ltb n 64) b o PatternFull e)
 placed-ok n (Err x) o e = clash cc
 
-met-within : (before : List Interaction) (bs : List ℕ) (s : Interaction) (o : List ℕ) → Within (length before) bs → met before bs s ≡ Ok o → Within (length (before ++ s ∷ [])) o
+pub met-within : (before : List Interaction) (bs : List ℕ) (s : Interaction) (o : List ℕ) → Within (length before) bs → met before bs s ≡ Ok o → Within (length (before ++ s ∷ [])) o
 unfolding met
 met-within before bs s o w e =
     let long : length before + 1 ≡ length (before ++ s ∷ []) = sym (length-append before (s ∷ [])) in
