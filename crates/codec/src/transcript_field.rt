@@ -6,6 +6,10 @@ ghost use Rattle.step.specs.declared.text.Text.{Text};
 ghost use Rattle.step.specs.Tags.{algebra};
 ghost use Rattle.step.specs.Texts.{content};
 use keccak::keccak256;
+use step::interaction::Hierarchy;
+use step::interaction::Interaction;
+use step::interaction::Kind;
+use step::interaction::Length;
 use step::text::Text;
 use step::type_tag::TypeTag;
 
@@ -47,5 +51,24 @@ pub trait TranscriptField: Field {
             Self::dimension(),
             keccak256(identity.as_bytes()),
         )
+    }
+}
+
+// A step that carries values of a field.
+pub fn algebra_step<F: TranscriptField>(
+    hierarchy: Hierarchy,
+    kind: Kind,
+    label: Text,
+    length: Length,
+) -> Interaction
+    ensures { λ r. ⌜ r ≡ record { hierarchy = hierarchy; kind = kind; label = label; «type_tag» = algebra (F·Field .modulus) (F·Field .dimension) (keccak-256 (content (F·Field .identity))); «type_name» = F·Field .name; length = length } ⌝ }
+{
+    Interaction {
+        hierarchy,
+        kind,
+        label,
+        type_tag: F::algebra_tag(),
+        type_name: F::type_name(),
+        length,
     }
 }

@@ -1,3 +1,4 @@
 pub mod Identifiers
 pub mod Seeds
 pub mod Laws
+pub mod Domains

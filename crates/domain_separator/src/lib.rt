@@ -2,3 +2,4 @@
 pub mod identifier;
 pub mod laws;
 pub mod seed;
+pub mod separator;

@@ -1,9 +1,6 @@
 // The seed: 101 bytes that a challenger takes in before the first step.
 ghost use mathlib.Core.Path.{_≡_};
-ghost use Rattle.challenger.specs.Sponge.{absorbed};
 ghost use Rattle.domain_separator.specs.Seeds.{seed};
-use challenger::can_observe::CanObserve;
-use challenger::unit::Unit;
 
 // Closes the seed.
 const DOMAIN_TAG: u8 = 0x80;
@@ -18,15 +15,4 @@ pub fn seed_bytes(protocol_id: &[u8; 64], pattern_hash: &[u8; 32]) -> [u8; 101]
     bytes[96..100].copy_from_slice(&0u32.to_be_bytes());
     bytes[100] = DOMAIN_TAG;
     bytes
-}
-
-// The challenger takes in the seed's items, whatever its unit makes of the bytes.
-pub fn observe_seed<U: Unit, C: CanObserve<U::Item>>(
-    challenger: &mut C,
-    protocol_id: &[u8; 64],
-    pattern_hash: &[u8; 32],
-)
-    ensures { λ _. ⌜ means (now (challenger .exit)) ≡ absorbed sponge (items (seed (now («protocol_id» .entry)) (now («pattern_hash» .entry)))) (means (now (challenger .entry))) ⌝ }
-{
-    U::observe_bytes(challenger, &seed_bytes(protocol_id, pattern_hash));
 }
