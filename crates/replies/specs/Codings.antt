@@ -26,6 +26,7 @@ abbrev pub items-of : UnitName → List ℕ → List ℕ
 items-of unit.Byte bs = bs
 items-of unit.Word bs = words bs
 
+-- the order of a field
 abbrev pub modulus-of : FieldName → ℕ
 modulus-of field.BabyBear = 2013265921
 modulus-of field.Goldilocks = 18446744069414584321
@@ -35,9 +36,11 @@ abbrev pub name-of : FieldName → Text
 name-of field.BabyBear = baby-bear
 name-of field.Goldilocks = goldilocks
 
+-- its order, one coefficient, and the digest of its identity
 abbrev pub tag-of : FieldName → TypeTag
 tag-of f = algebra (modulus-of f) 1 (keccak-256 (content (name-of f)))
 
+-- wire bytes, drawn bytes and declared bits of each codec
 abbrev pub wire-of : CodecName → Wire
 wire-of codec.BabyBear = scalar-wire baby-bear (modulus-of field.BabyBear) 4 24 128
 wire-of codec.Goldilocks = scalar-wire goldilocks (modulus-of field.Goldilocks) 8 24 128

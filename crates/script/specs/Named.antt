@@ -20,13 +20,16 @@ use Rattle.script.specs.declared.command.Value.the-variants as value
 abbrev pub or-for : {X : Type 0} → List ℕ → List ℕ → X → Option X → Option X
 or-for word name x o = cond (sameBytes word name) (Some x) o
 
+-- the unit that a word names
 abbrev pub unit-named : List ℕ → Option UnitName
 unit-named word = or-for word (codes "byte") unit.Byte (or-for word (codes "word") unit.Word None)
 
+-- the field that a word names
 abbrev pub field-named : List ℕ → Option FieldName
 field-named word =
     or-for word (codes "BabyBear") field.BabyBear (or-for word (codes "Goldilocks") field.Goldilocks None)
 
+-- the codec that a word names
 abbrev pub codec-named : List ℕ → Option CodecName
 codec-named word =
     or-for word (codes "BabyBear") codec.BabyBear (
