@@ -8,19 +8,17 @@ use step::interaction::Length;
 use step::text::Text;
 use step::type_tag::TypeTag;
 
-fn text(bytes: &[u8]) -> Result<Text, Fail> {
-    match Text::new(bytes) {
-        Ok(text) => Ok(text),
-        Err(_) => Err(Fail::new("no text")),
-    }
+// Of bytes that make none, `u8`.
+fn text(bytes: &[u8]) -> Text {
+    Text::new(bytes).unwrap_or(Text::u8())
 }
 
-fn scope(hierarchy: Hierarchy, kind: Kind, label: &[u8]) -> Result<Interaction, Fail> {
-    Ok(Interaction::marker(hierarchy, kind, text(label)?, Text::u8()))
+fn scope(hierarchy: Hierarchy, kind: Kind, label: &[u8]) -> Interaction {
+    Interaction::marker(hierarchy, kind, text(label), Text::u8())
 }
 
-fn leaf(kind: Kind, label: &[u8], length: Length) -> Result<Interaction, Fail> {
-    Ok(Interaction::bytes(Hierarchy::Atomic, kind, text(label)?, length))
+fn leaf(kind: Kind, label: &[u8], length: Length) -> Interaction {
+    Interaction::bytes(Hierarchy::Atomic, kind, text(label), length)
 }
 
 fn check_renders(rt: &LibcRuntime, steps: &[Interaction], text: &[u8]) -> Result<(), Fail> {
@@ -41,10 +39,10 @@ fn no_steps(rt: LibcRuntime) -> Result<(), Fail> {
 #[test]
 fn closers_without_opener(rt: LibcRuntime) -> Result<(), Fail> {
     let steps = [
-        scope(Hierarchy::End, Kind::Hint, b"a")?,
-        scope(Hierarchy::End, Kind::Hint, b"a")?,
-        scope(Hierarchy::Begin, Kind::Hint, b"b")?,
-        leaf(Kind::Hint, b"c", Length::None)?,
+        scope(Hierarchy::End, Kind::Hint, b"a"),
+        scope(Hierarchy::End, Kind::Hint, b"a"),
+        scope(Hierarchy::Begin, Kind::Hint, b"b"),
+        leaf(Kind::Hint, b"c", Length::None),
     ];
     check_renders(
         &rt,
@@ -62,21 +60,21 @@ fn closers_without_opener(rt: LibcRuntime) -> Result<(), Fail> {
 fn twelve_steps(rt: LibcRuntime) -> Result<(), Fail> {
     let mut basis = [0x5e; 32];
     basis[0] = 0x01;
-    let mut element = leaf(Kind::Message, b"m", Length::Fixed(3))?;
+    let mut element = leaf(Kind::Message, b"m", Length::Fixed(3));
     element.type_tag = TypeTag::algebra(2013265921, 4, basis);
     let steps = [
-        scope(Hierarchy::Begin, Kind::Protocol, b"outer")?,
-        leaf(Kind::Public, b"x", Length::Scalar)?,
-        scope(Hierarchy::Begin, Kind::Message, b"in")?,
+        scope(Hierarchy::Begin, Kind::Protocol, b"outer"),
+        leaf(Kind::Public, b"x", Length::Scalar),
+        scope(Hierarchy::Begin, Kind::Message, b"in"),
         element,
-        scope(Hierarchy::End, Kind::Message, b"in")?,
-        leaf(Kind::Challenge, b"c", Length::Scalar)?,
-        leaf(Kind::Hint, b"hint h", Length::Bounded(10))?,
-        leaf(Kind::Pow, b"pow", Length::Fixed(8))?,
-        leaf(Kind::Salt, b"", Length::Fixed(32))?,
-        leaf(Kind::Public, b"nine", Length::None)?,
-        leaf(Kind::Message, b"ten", Length::Scalar)?,
-        scope(Hierarchy::End, Kind::Protocol, b"outer")?,
+        scope(Hierarchy::End, Kind::Message, b"in"),
+        leaf(Kind::Challenge, b"c", Length::Scalar),
+        leaf(Kind::Hint, b"hint h", Length::Bounded(10)),
+        leaf(Kind::Pow, b"pow", Length::Fixed(8)),
+        leaf(Kind::Salt, b"", Length::Fixed(32)),
+        leaf(Kind::Public, b"nine", Length::None),
+        leaf(Kind::Message, b"ten", Length::Scalar),
+        scope(Hierarchy::End, Kind::Protocol, b"outer"),
     ];
     check_renders(
         &rt,
