@@ -1,6 +1,6 @@
 // One link of a chain: the state hashed with a separator and an item.
 ghost use mathlib.Core.Path.{_≡_};
-ghost use Rattle.chains.specs.Chains.{linked};
+ghost use Rattle.chains.specs.Linked.{linked};
 use keccak::Keccak256;
 
 // The separators keep apart what is taken in and what is drawn.

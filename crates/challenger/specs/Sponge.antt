@@ -1,12 +1,14 @@
 -- What a challenger means: a state, how an item changes it, and what drawing a byte gives and leaves.
 use mathlib.Core.List.{List, [], _∷_}
-use Prim.Native.Nat.{ℕ, zero, suc}
+use Prim.Native.Nat.{ℕ, zero, suc, _<_}
 
 pub record Sponge (State Item : Type 0) : Type 0 where
   pub takes : State → Item → State
   -- the byte that it draws, and its state then
   pub byte : State → ℕ
   pub turns : State → State
+  -- what is drawn is a byte
+  pub bounded : (s : State) → byte s < 256
 
 -- the state after items, in order
 abbrev pub absorbed : {S I : Type 0} → Sponge S I → List I → S → S

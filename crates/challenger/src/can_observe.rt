@@ -1,6 +1,6 @@
 // A challenger: it takes items in, and bytes are drawn from it.
 ghost use mathlib.Core.Path.{_≡_};
-ghost use Prim.Native.Nat.{_<_};
+ghost use denote.Ref.{now};
 ghost use Rattle.challenger.specs.Sponge.{Sponge, absorbed};
 
 // A challenger means one state. Neither call is ever refused.
@@ -11,8 +11,6 @@ pub trait CanObserve<T> {
 
     // How the state goes on; it depends on nothing else.
     ghost sponge: { Sponge State T };
-
-    law byte: { (s : State) → sponge .byte s < 256 };
 
     fn observe(&mut self, item: T)
         ensures { λ _. ⌜ means (now (self .exit)) ≡ sponge .takes (means (now (self .entry))) item ⌝ };
@@ -28,5 +26,22 @@ pub fn observe_slice<T: Copy, C: CanObserve<T>>(challenger: &mut C, items: &[T])
 {
     for item in items {
         challenger.observe(*item);
+    }
+}
+
+// A borrowed challenger is one.
+pub impl<T, C: CanObserve<T>> CanObserve<T> for &mut C as BorrowedCanObserve {
+    ghost State = { C·CanObserve .State };
+
+    ghost means = { λ c. C·CanObserve .means (now c) };
+
+    ghost sponge = { C·CanObserve .sponge };
+
+    fn observe(&mut self, item: T) {
+        (**self).observe(item);
+    }
+
+    fn draw(&mut self) -> u8 {
+        (**self).draw()
     }
 }

@@ -1,5 +1,0 @@
-use Rattle.chains.proofs.Links.{drawn-byte}
-use Rattle.chains.proofs.byte_chain.ByteChainCanObserve.the-impl.Needs as need
-
-pub byte-law : need.byte-law
-byte-law = drawn-byte
