@@ -1,4 +1,6 @@
 // What a field and a codec mean.
+#![tactic(auto)]
+
 pub mod bound;
 pub mod codec;
 pub mod round_trip;

@@ -1,4 +1,6 @@
 // The refusals: one case for each question that a call can answer with no, and what it carries.
+#![tactic(auto)]
+
 ghost use Rattle.std.specs.Prelude.{◌≡◌};
 ghost use Rattle.error.specs.Numbers.{number as number_of};
 

@@ -1,4 +1,6 @@
 // Keccak-256 of a byte string, at once or in parts, with Keccak's original padding.
+#![tactic(auto)]
+
 mod hasher;
 mod laws;
 mod sponge;

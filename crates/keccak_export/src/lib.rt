@@ -1,4 +1,6 @@
 // Keccak-f[1600] and Keccak-256 for callers in C or Rust.
+#![tactic(auto)]
+
 ghost use Rattle.std.specs.Prelude.{◌≡◌};
 ghost use Rattle.keccak_f.specs.Permutation.{keccak_f};
 ghost use Rattle.keccak.specs.Sponge.{keccak_256};

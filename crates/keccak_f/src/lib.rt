@@ -1,4 +1,6 @@
 // Keccak-f[1600], the permutation under Keccak-256, and the laws of its tables and words.
+#![tactic(auto)]
+
 mod laws;
 mod permutation;
 

@@ -1,4 +1,6 @@
 // Hashes the messages of standard input, and says of each digest whether it is the expected one.
+#![tactic(auto)]
+
 mod hex;
 mod message;
 mod parts;

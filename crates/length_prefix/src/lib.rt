@@ -10,6 +10,8 @@
 //     max <= 2^64-1  -> width 8
 //
 // No width travels on the wire.
+#![tactic(auto)]
+
 mod laws;
 
 ghost use Rattle.std.specs.Prelude.{◌≡◌, ◌≤◌, true, not, List, ◌++◌, Ok};

@@ -1,4 +1,6 @@
 // Patterns of steps: what is checked, how, and what passed.
+#![tactic(auto)]
+
 pub mod candidate;
 pub mod draft;
 pub mod laws;

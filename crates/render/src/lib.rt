@@ -1,4 +1,6 @@
 // The rendering of a list of steps as text, line by line, and its Keccak-256.
+#![tactic(auto)]
+
 pub mod laws;
 mod line;
 mod names;

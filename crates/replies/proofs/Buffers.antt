@@ -1,12 +1,12 @@
 -- A buffer that is just long enough.
 use Rattle.std.proofs.Common.{◌≡◌, ℕ, ◌+◌, ◌≤◌, List, ◌++◌, length, take, drop, sym, refl, ap, ◌∙◌, append-nil, arith}
 use Rattle.std.proofs.lemmas.List.{drop_all, take_at}
-use Rattle.std.proofs.lemmas.Bool.{cond_true, le-leb}
+use Rattle.std.proofs.lemmas.Bool.{cond-true, le-leb}
 use Rattle.codec.specs.Coding.{filled_with}
 
 filled_whole : (out bs : List ℕ) → length out ≡ length bs → filled_with out 0 bs ≡ bs
 filled_whole out bs e =
-    cond_true _ _ _ (le-leb (0 + length bs) (length out) (omega arith)) ∙
+    cond-true _ _ _ (le-leb (0 + length bs) (length out) (omega arith)) ∙
     ap (λ rest. bs ++ rest) (drop_all (0 + length bs) out (omega arith)) ∙ append-nil bs
 
 -- the buffer is the whole of a vector of n bytes, which held other bytes before

@@ -1,4 +1,6 @@
 // The answer of each command of a script, its text, and the reply to a line.
+#![tactic(auto)]
+
 pub mod answer;
 mod codings;
 mod items;

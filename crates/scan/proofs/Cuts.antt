@@ -1,14 +1,14 @@
 -- Where the first line and the first word end, and what is left after them.
 use Rattle.std.proofs.Common.{◌≡◌, ℕ, suc, ◌+◌, ◌<◌, ◌≤◌, Bool, true, false, cond, eqb, List, [], ◌∷◌, length, get_or, take, drop, sym, refl, ap, ◌∙◌, subst, inl, inr, add-one, arith}
 use Rattle.std.proofs.lemmas.List.{at_drop_more, drop_more, take_all, drop_all, nil_from_length}
-use Rattle.std.proofs.lemmas.Bool.{cond_true, cond-false, cases_Bool, eq-eqb, ne_eqb}
+use Rattle.std.proofs.lemmas.Bool.{cond-true, cond-false, cases_Bool, eq-eqb, ne_eqb}
 use Rattle.scan.specs.Lines.{lines, place, onto}
 use Rattle.scan.specs.Words.{words, trimmed, begun}
 
 -- a search for b that has come to i
 module _ (b : ℕ) (xs : List ℕ) (i : ℕ) (lt : i < length xs) where
   pub place_found : get_or xs i 0 ≡ b → place b (drop i xs) ≡ 0
-  place_found e = at_drop_more (place b) xs i 0 lt ∙ cond_true _ _ _ (eq-eqb _ _ e)
+  place_found e = at_drop_more (place b) xs i 0 lt ∙ cond-true _ _ _ (eq-eqb _ _ e)
 
   pub place_more : (get_or xs i 0 ≡ b → ⊥) → place b (drop i xs) ≡ suc (place b (drop (i + 1) xs))
   place_more ne = at_drop_more (place b) xs i 0 lt ∙ cond-false _ _ _ (ne_eqb _ _ ne)
@@ -16,7 +16,7 @@ module _ (b : ℕ) (xs : List ℕ) (i : ℕ) (lt : i < length xs) where
 -- a search past spaces that has come to i
 module _ (xs : List ℕ) (i : ℕ) (lt : i < length xs) where
   pub trimmed_more : get_or xs i 0 ≡ 32 → trimmed (drop i xs) ≡ trimmed (drop (i + 1) xs)
-  trimmed_more e = at_drop_more trimmed xs i 0 lt ∙ cond_true _ _ _ (eq-eqb _ _ e)
+  trimmed_more e = at_drop_more trimmed xs i 0 lt ∙ cond-true _ _ _ (eq-eqb _ _ e)
 
   pub trimmed_found : (get_or xs i 0 ≡ 32 → ⊥) → trimmed (drop i xs) ≡ drop i xs
   trimmed_found ne = at_drop_more trimmed xs i 0 lt ∙ cond-false _ _ _ (ne_eqb _ _ ne) ∙ sym (drop_more xs i 0 lt)

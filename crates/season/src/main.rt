@@ -1,4 +1,6 @@
 // Records the pattern of a berth's season, checks it, renders and hashes it, binds it to a domain, and follows it again.
+#![tactic(auto)]
+
 mod plan;
 mod report;
 

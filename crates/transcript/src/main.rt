@@ -1,4 +1,6 @@
 // Reads a script from standard input, and writes the answer line of each command.
+#![tactic(auto)]
+
 use replies::respond::respond;
 use scan::lines::Lines;
 use std::io;

@@ -15,7 +15,7 @@ loop-x-init g c = filling_at c.loop-y.invariant _ (omega arith)
 pub loop-x-preserved : goal.loop-x-preserved
 loop-x-preserved g c =
     filling_more (round_lane c.args.a.now) _ _ _ _ c.loop-x-test.true c.loop-y-test.true
-    (c.chi_lane.ensures ∙ ap (λ row. chi_lane row c.loop-x.x) c.moved-row-row.ensures)
+    (c.chi_lane.ensures ∙ ap (λ row. chi_lane row c.loop-x.x) c.moved_row-row.ensures)
     c.loop-x.invariant
 
 pub loop-y-preserved : goal.loop-y-preserved

@@ -13,6 +13,6 @@ returns-then-end-text c = search (rules, lines_last)
 pub returns : goal.returns
 returns c =
     record {
-      value = simp (sub-zero, take_rest) (lines_next _ _ (omega arith) c.first-of-end.ensures.value);
+      value = simp (sub-zero, take_rest) (lines_next _ _ (omega arith) c.first_of-end.ensures.value);
       shorter = simp (take_rest, length-drop) (omega arith);
     }

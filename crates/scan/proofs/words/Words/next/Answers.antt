@@ -5,9 +5,9 @@ use Rattle.scan.proofs.Cuts.{words_none, words_next}
 use Rattle.scan.proofs.words.Words.next.Goals as goal
 
 pub returns-then-rest-eq0 : goal.returns-then-rest-eq0
-returns-then-rest-eq0 c = words_none _ _ c.past-spaces-rest.ensures c.if-rest-eq0.true
+returns-then-rest-eq0 c = words_none _ _ c.past_spaces-rest.ensures c.if-rest-eq0.true
 
 pub returns : goal.returns
 returns c =
     simp (sub-zero, take_rest)
-    (words_next _ _ c.past-spaces-rest.ensures _ (omega arith) c.first-of-end.ensures.value)
+    (words_next _ _ c.past_spaces-rest.ensures _ (omega arith) c.first_of-end.ensures.value)
