@@ -10,10 +10,10 @@ pub returns : goal.returns
 returns c =
     let w = c.args.width in
     let buf = c.args.buf.now in
-    let copied = c.copy-from-slice.new.self in
+    let copied = c.copy_from_slice.new.self in
     let le : w ≤ length buf = omega arith in
-    let is : copied ≡ take w buf = c.copy-from-slice.ensures.after ∙ ap (λ k. take k buf) (sub-zero w) in
-    let sum : c.from-be-bytes.result ≡ sum_be (put_mid (8 - w) (8 - (8 - w)) (replicate 8 0) copied) = c.from-be-bytes.ensures in
+    let is : copied ≡ take w buf = c.copy_from_slice.ensures.after ∙ ap (λ k. take k buf) (sub-zero w) in
+    let sum : c.from_be_bytes.result ≡ sum_be (put_mid (8 - w) (8 - (8 - w)) (replicate 8 0) copied) = c.from_be_bytes.ensures in
     let says = be_at_the_end w copied (omega arith) (ap length is ∙ length-take-le w buf le) in
     let a = le-leb w 8 (omega arith) in
     let b = le-leb w (length buf) le in

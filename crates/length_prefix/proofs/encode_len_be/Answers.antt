@@ -22,6 +22,6 @@ returns c =
       | goal.else-width-lt-WIDEST-via-then-width-lt-WIDEST+else-len-width x ↦ fits_so len w (omega arith) (subst (λ k. len < k) (limit w x.if-width-lt-WIDEST.true) x.if-len-width.false)
       | goal.else-width-lt-WIDEST-via-else-width-lt-WIDEST x ↦ let e : 8 ≡ w = omega (arith, x.if-width-lt-WIDEST.false) in fits_so len w (omega arith) (subst (λ k. len < 256 ^ k) e (omega arith))
     ] in
-    let part : c.copy-from-slice.new.self ≡ drop (8 - w) (eight_be len) =
-    c.copy-from-slice.ensures.after ∙ ap (λ xs. take (8 - (8 - w)) (drop (8 - w) xs)) c.to-be-bytes-full.ensures ∙ take_rest (eight_be len) (8 - w) in
-    record { bytes = ap (λ k. c.copy-from-slice.new.self ++ drop k (replicate 8 0)) (sub-zero w) ∙ left_aligned len w _ ok part; refused = rw ok }
+    let part : c.copy_from_slice.new.self ≡ drop (8 - w) (eight_be len) =
+    c.copy_from_slice.ensures.after ∙ ap (λ xs. take (8 - (8 - w)) (drop (8 - w) xs)) c.to_be_bytes-full.ensures ∙ take_rest (eight_be len) (8 - w) in
+    record { bytes = ap (λ k. c.copy_from_slice.new.self ++ drop k (replicate 8 0)) (sub-zero w) ∙ left_aligned len w _ ok part; refused = rw ok }

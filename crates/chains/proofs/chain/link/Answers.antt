@@ -9,6 +9,6 @@ returns c =
     let x = c.args.separator in
     let item = c.args.item.now in
     let one = c.absorb.ensures.absorbed [] c.new-hasher.ensures.absorbed in
-    let two = c.absorb-byte.ensures.absorbed s one in
+    let two = c.absorb_byte.ensures.absorbed s one in
     let three = c.absorb-2.ensures.absorbed (s ++ x ∷ []) two in
     c.digest.ensures.hash ((s ++ x ∷ []) ++ item) three ∙ ap keccak_256 (append_assoc s (x ∷ []) item)

@@ -6,8 +6,8 @@ pub unreachable-requires : goal.unreachable-requires
 unreachable-requires g c =
     let k = g.K.Codec in
     let v = c.args.value.now in
-    let went = sym c.in-ok-end.ensures.value in
-    let again = read_again k.coding.wire c.args.out.now (k.code v) c.in-ok-end.end (g.met.K.Codec.codes v) went k.uncoded _ c.encode.ensures.bytes in
+    let went = sym c.in_ok-end.ensures.value in
+    let again = read_again k.coding.wire c.args.out.now (k.code v) c.in_ok-end.end (g.met.K.Codec.codes v) went k.uncoded _ c.encode.ensures.bytes in
     let e = c.in-Err.ensures ∙ again in
     let z : ◌≡◌ {A = ℕ} 0 1 = cc in
     omega arith
@@ -18,10 +18,10 @@ returns g c =
     let v = c.args.value.now in
     let bs = k.code v in
     let good = g.met.K.Codec.codes v in
-    let went = sym c.in-ok-end.ensures.value in
-    let again = read_again k.coding.wire c.args.out.now bs c.in-ok-end.end good went k.uncoded _ c.encode.ensures.bytes in
+    let went = sym c.in_ok-end.ensures.value in
+    let again = read_again k.coding.wire c.args.out.now bs c.in_ok-end.end good went k.uncoded _ c.encode.ensures.bytes in
     let e = c.in-Ok.ensures ∙ again in
     let is : c.in-Ok.again ≡ k.uncoded bs = cc in (
-      enough k.coding.wire c.args.out.now bs c.in-ok-end.end good went,
+      enough k.coding.wire c.args.out.now bs c.in_ok-end.end good went,
       ap k.stands is ∙ (g.met.K.Codec.same (k.uncoded bs) v).0 (g.met.K.Codec.reads bs good),
     )

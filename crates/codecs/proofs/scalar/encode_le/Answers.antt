@@ -26,7 +26,7 @@ returns c =
     let bs = little_endian w n in
     let fits : filled + w ≤ length out = omega arith in
     let whole : 8 ≡ w + (8 - w) = omega arith in
-    let part : c.copy-from-slice.new.self ≡ bs =
-    c.copy-from-slice.ensures.after ∙ ap (λ k. take k c.to-le-bytes-bytes.result) (sub-zero w)
-    ∙ ap (take w) (c.to-le-bytes-bytes.ensures ∙ eight_le_is n ∙ ap (λ k. little_endian k n) whole) ∙ first w (8 - w) n in
+    let part : c.copy_from_slice.new.self ≡ bs =
+    c.copy_from_slice.ensures.after ∙ ap (λ k. take k c.to_le_bytes-bytes.result) (sub-zero w)
+    ∙ ap (take w) (c.to_le_bytes-bytes.ensures ∙ eight_le_is n ∙ ap (λ k. little_endian k n) whole) ∙ first w (8 - w) n in
     record { value = sym (has_room out filled w bs (long w n) fits); bytes = written out filled w bs (long w n) fits _ part }

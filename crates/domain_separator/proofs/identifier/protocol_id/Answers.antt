@@ -8,5 +8,5 @@ pub returns : goal.returns
 returns c =
     let v = c.args.version in
     let n = c.args.name.now in
-    ap (λ l. Ok l) (identifier_laid v n (omega arith) _ (1 + length n - 1) c.copy-from-slice.ensures.after (omega arith))
+    ap (λ l. Ok l) (identifier_laid v n (omega arith) _ (1 + length n - 1) c.copy_from_slice.ensures.after (omega arith))
     ∙ sym (ap (λ b. cond b (Ok (identifier v n)) (Err InvalidName)) (is_named n (omega arith) (omega arith)))

@@ -7,5 +7,5 @@ use Rattle.keccak.proofs.sponge.last_block.Goals as goal
 pub returns : goal.returns
 returns c =
     last_block_is c.args.first c.args.rest.now _ c.requires
-    (ap₂ ◌++◌ c.copy-from-slice.ensures.after
+    (ap₂ ◌++◌ c.copy_from_slice.ensures.after
     (drop-replicate (length c.args.rest.now - 0) 136 0 ∙ ap (λ k. replicate k 0) (omega arith)))

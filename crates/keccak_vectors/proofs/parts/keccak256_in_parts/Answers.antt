@@ -9,16 +9,16 @@ pub loop-rest-preserved : goal.loop-rest-preserved
 loop-rest-preserved c =
     let rest = c.loop-rest.rest.now in
     let byte = get_or rest 0 0 in
-    let part = c.split-at.result.0.now in
-    let others = c.split-at.result.1.now in
+    let part = c.split_at.result.0.now in
+    let others = c.split_at.result.1.now in
     let m = c.loop-rest.invariant.1.0 in
     let both = m ++ byte ∷ [] in (
       omega arith,
       (
         both ++ part,
-        c.absorb.ensures.absorbed both (c.absorb-byte.ensures.absorbed m c.loop-rest.invariant.1.1),
+        c.absorb.ensures.absorbed both (c.absorb_byte.ensures.absorbed m c.loop-rest.invariant.1.1),
         append_assoc both part others ∙ append_assoc m (byte ∷ []) (part ++ others)
-            ∙ ap (λ l. m ++ byte ∷ l) (sym c.split-at.ensures.by_index.0)
+            ∙ ap (λ l. m ++ byte ∷ l) (sym c.split_at.ensures.by_index.0)
             ∙ ap (λ l. m ++ l) (sym (first_rest rest 0 (omega arith)))
             ∙ c.loop-rest.invariant.1.2,
       ),

@@ -7,15 +7,15 @@ use Rattle.std.specs.List.{flat_map}
 use Rattle.std.proofs.lemmas.List.{length-append}
 use Rattle.message.proofs.put.put_values.Goals as goal
 
-pub returns-then-not-has-room : goal.returns-then-not-has-room
-returns-then-not-has-room g c =
+pub returns-then-not-has_room : goal.returns-then-not-has_room
+returns-then-not-has_room g c =
     let xs = c.args.prefix.now in
     let vs = c.args.values.now in
     let ys = flat_map g.K.Codec.code vs in
     let size = length-append xs ys in
     let each = joined_wide g.K.Codec.code g.K.Codec.coding.wire.wide (λ v. (g.met.K.Codec.codes v).long) vs in
-    let wide = ap (λ w. length vs * w) c.wire-len-wide.ensures in
-    let h = leb-false _ _ (sym c.has-room.ensures ∙ c.if-not-has-room.true) in
+    let wide = ap (λ w. length vs * w) c.wire_len-wide.ensures in
+    let h = leb-false _ _ (sym c.has_room.ensures ∙ c.if-not-has_room.true) in
     let t = full (xs ++ ys) c.args.out.now c.args.filled (g.C.CanObserve.means c.args.challenger.now) (taken_in g.C.CanObserve.sponge g.U.Unit.items g.K.Codec.coding xs (map g.K.Codec.code vs) (g.C.CanObserve.means c.args.challenger.now)) (omega arith) in
     record { answer = sym (ap (λ o. o.answer) t); buffer = sym (ap (λ o. o.buffer) t); state = sym (ap (λ o. o.state) t) }
 
@@ -26,12 +26,12 @@ returns g c =
     let ys = flat_map g.K.Codec.code vs in
     let size = length-append xs ys in
     let each = joined_wide g.K.Codec.code g.K.Codec.coding.wire.wide (λ v. (g.met.K.Codec.codes v).long) vs in
-    let wide = ap (λ w. length vs * w) c.wire-len-wide.ensures in
-    let h = leb-true _ _ (sym c.has-room.ensures ∙ c.if-not-has-room.false) in
+    let wide = ap (λ w. length vs * w) c.wire_len-wide.ensures in
+    let h = leb-true _ _ (sym c.has_room.ensures ∙ c.if-not-has_room.false) in
     let t = puts (xs ++ ys) c.args.out.now c.args.filled (g.C.CanObserve.means c.args.challenger.now) (taken_in g.C.CanObserve.sponge g.U.Unit.items g.K.Codec.coding xs (map g.K.Codec.code vs) (g.C.CanObserve.means c.args.challenger.now)) (omega arith) in
-    let total : (c.args.filled + length xs) + length vs * c.wire-len-wide.result ≡ c.args.filled + length (xs ++ ys) = omega arith in
+    let total : (c.args.filled + length xs) + length vs * c.wire_len-wide.result ≡ c.args.filled + length (xs ++ ys) = omega arith in
     record {
       answer = ap Ok total ∙ sym (ap (λ o. o.answer) t);
-      buffer = c.write-values.ensures.buffer ∙ ap (λ l. wrote l (c.args.filled + length xs) ys) c.write.ensures ∙ wrote_more c.args.out.now c.args.filled xs ys (omega arith) ∙ sym (ap (λ o. o.buffer) t);
-      state = c.write-values.ensures.state ∙ ap₂ (absorbed g.C.CanObserve.sponge) (joined_map g.K.Codec.coding.items g.K.Codec.code vs) c.observe-bytes.ensures ∙ sym (ap (λ o. o.state) t);
+      buffer = c.write_values.ensures.buffer ∙ ap (λ l. wrote l (c.args.filled + length xs) ys) c.write.ensures ∙ wrote_more c.args.out.now c.args.filled xs ys (omega arith) ∙ sym (ap (λ o. o.buffer) t);
+      state = c.write_values.ensures.state ∙ ap₂ (absorbed g.C.CanObserve.sponge) (joined_map g.K.Codec.coding.items g.K.Codec.code vs) c.observe_bytes.ensures ∙ sym (ap (λ o. o.state) t);
     }

@@ -3,8 +3,8 @@ use Rattle.error.specs.declared.TranscriptError.TheVariants.{BadValue}
 use Rattle.message.proofs.Values.{decoded_ok, decoded_err, partly_more, partly_bad, partly_all, piece_value, bytes_typed}
 use Rattle.message.proofs.take.read_values.Goals as goal
 
-pub slice-bounds-decode-end : goal.slice-bounds-decode-end
-slice-bounds-decode-end g c =
+pub slice_bounds-decode-end : goal.slice_bounds-decode-end
+slice_bounds-decode-end g c =
     let w = g.K.Codec.coding.wire.wide in
     let m : suc c.loop-index.index * w ≤ c.args.count * w = mul-le-mul_right w (omega arith) in
     let s = suc-mul c.loop-index.index w in
@@ -21,7 +21,7 @@ pub returns-in-Err : goal.returns-in-Err
 returns-in-Err g c =
     let k = g.K.Codec.coding in
     let l = c.loop-index in
-    let here = cut_out l.at c.wire-len-wide.result l.index k.wire.wide c.args.bytes.now l.invariant.0 c.wire-len-wide.ensures in
+    let here = cut_out l.at c.wire_len-wide.result l.index k.wire.wide c.args.bytes.now l.invariant.0 c.wire_len-wide.ensures in
     let d = decoded_err k.wire g.K.Codec.uncoded _ c.in-Err.fault c.in-Err.ensures in
     let q = partly_bad g.C.CanObserve.sponge k g.K.Codec.code g.K.Codec.uncoded c.args.bytes.now c.args.count c.args.out.now (g.C.CanObserve.means c.args.challenger.now) l.index l.out (g.C.CanObserve.means l.challenger) c.loop-index-test.true l.invariant.1 (ap k.wire.decodes (sym here) ∙ d.0) in
     record { answer = ap (λ f. Err (BadValue l.index f)) (d.1 ∙ ap k.wire.fault here) ∙ q.answer; stored = q.stored; state = q.state }
@@ -31,7 +31,7 @@ loop-index-preserved g c =
     let k = g.K.Codec.coding in
     let l = c.loop-index in
     let s = c.args.bytes.now in
-    let here = cut_out l.at c.wire-len-wide.result l.index k.wire.wide s l.invariant.0 c.wire-len-wide.ensures in
+    let here = cut_out l.at c.wire_len-wide.result l.index k.wire.wide s l.invariant.0 c.wire_len-wide.ensures in
     let d = decoded_ok k.wire g.K.Codec.uncoded _ c.in-Ok.value c.in-Ok.ensures in
     let good = ap k.wire.decodes (sym here) ∙ d.0 in
     let is = d.1 ∙ ap g.K.Codec.uncoded here in

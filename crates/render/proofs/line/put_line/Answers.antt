@@ -6,5 +6,5 @@ pub returns : goal.returns
 unfolding line
 returns g c =
     let h = g.S.Sink.holds in
-    then h _ _ _ _ _ c.put-padded.ensures (then h _ _ _ _ _ c.put.ensures
-    (then h _ _ _ _ _ c.put-repeated.ensures (then h _ _ _ _ _ c.put-step.ensures c.put-2.ensures)))
+    then h _ _ _ _ _ c.put_padded.ensures (then h _ _ _ _ _ c.put.ensures
+    (then h _ _ _ _ _ c.put_repeated.ensures (then h _ _ _ _ _ c.put_step.ensures c.put-2.ensures)))

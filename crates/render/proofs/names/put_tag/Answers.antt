@@ -8,6 +8,6 @@ returns-in-Algebra g c =
     let h = g.S.Sink.holds in
     let t = c.args.tag.now in
     same h _ _ _ _ (sym (ap (λ code. tag_text_by code t.modulus t.degree t.basis) c.in-Algebra.is))
-    (then h _ _ _ _ _ c.put-in-Algebra.ensures (then h _ _ _ _ _ c.put-decimal.ensures
-    (then h _ _ _ _ _ c.put-in-Algebra-2.ensures (then h _ _ _ _ _ c.put-decimal-in-Algebra.ensures
-    (then h _ _ _ _ _ c.put-in-Algebra-3.ensures (then h _ _ _ _ _ c.put-hex.ensures c.put-in-Algebra-4.ensures))))))
+    (then h _ _ _ _ _ c.put-in-Algebra.ensures (then h _ _ _ _ _ c.put_decimal.ensures
+    (then h _ _ _ _ _ c.put-in-Algebra-2.ensures (then h _ _ _ _ _ c.put_decimal-in-Algebra.ensures
+    (then h _ _ _ _ _ c.put-in-Algebra-3.ensures (then h _ _ _ _ _ c.put_hex.ensures c.put-in-Algebra-4.ensures))))))

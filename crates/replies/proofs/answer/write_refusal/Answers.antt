@@ -5,8 +5,8 @@ use Rattle.replies.proofs.answer.write_refusal.Goals as goal
 pub returns : goal.returns
 returns c =
     let old = vec_items c.args.out.now in
-    let all = vec_items c.write-number.new.out in
-    subst (λ n. IfOk c.write-number.result (λ _. all ≡ old ++ (codes "refused " ++ decimal n)))
+    let all = vec_items c.write_number.new.out in
+    subst (λ n. IfOk c.write_number.result (λ _. all ≡ old ++ (codes "refused " ++ decimal n)))
     (c.from.ensures ∙ c.number.ensures)
-    (after old (vec_items c.extend-from-slice.new.self) all (codes "refused ") (decimal c.from.result)
-    c.in-ok-extend-from-slice.ensures.items c.write-number.result c.write-number.ensures)
+    (after old (vec_items c.extend_from_slice.new.self) all (codes "refused ") (decimal c.from.result)
+    c.in_ok-extend_from_slice.ensures.items c.write_number.result c.write_number.ensures)

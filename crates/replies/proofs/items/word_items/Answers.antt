@@ -6,10 +6,10 @@ use Rattle.replies.proofs.items.word_items.Goals as goal
 pub loop-i-preserved : goal.loop-i-preserved
 loop-i-preserved c =
     copied_more (words c.args.bytes.now) c.loop-i.i (vec_items c.loop-i.items) _ _
-    (omega (arith, c.loop-i-test.true, c.word-count-count.ensures)) c.loop-i.invariant
-    (c.from.ensures ∙ c.word.ensures) c.in-ok-push.ensures.items
+    (omega (arith, c.loop-i-test.true, c.word_count-count.ensures)) c.loop-i.invariant
+    (c.from.ensures ∙ c.word.ensures) c.in_ok-push.ensures.items
 
 pub returns : goal.returns
 returns c =
     copied_all (words c.args.bytes.now) c.loop-i.i _
-    (omega (arith, c.loop-i-test.false, c.word-count-count.ensures)) c.loop-i.invariant
+    (omega (arith, c.loop-i-test.false, c.word_count-count.ensures)) c.loop-i.invariant

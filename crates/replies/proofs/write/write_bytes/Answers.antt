@@ -16,9 +16,9 @@ whole (b ∷ bs) i some all = ap (flat_map pair) (take_all i (b ∷ bs) all)
 
 pub loop-b-preserved : goal.loop-b-preserved
 loop-b-preserved c =
-    c.in-ok-extend-from-slice.ensures.items ∙
+    c.in_ok-extend_from_slice.ensures.items ∙
     one_more (vec_items c.args.out.now) (vec_items c.loop-b.out) c.args.bytes.now c.loop-b.b-index _ _
-    c.loop-b-test.true c.loop-b.invariant c.hex_digit.ensures c.hex-digit-in-loop-b.ensures
+    c.loop-b-test.true c.loop-b.invariant c.hex_digit.ensures c.hex_digit-in-loop-b.ensures
 
 pub returns : goal.returns
 returns c =

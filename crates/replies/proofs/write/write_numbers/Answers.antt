@@ -5,8 +5,8 @@ use Rattle.replies.proofs.write.write_numbers.Goals as goal
 pub loop-n-preserved : goal.loop-n-preserved
 loop-n-preserved c =
     spaced_more c.args.numbers.now c.loop-n.n-index (vec_items c.args.out.now) (vec_items c.loop-n.out)
-    (vec_items c.push.new.self) _ c.loop-n-test.true c.loop-n.invariant c.in-ok-push.ensures.items
-    c.in-ok-write-number.ensures
+    (vec_items c.push.new.self) _ c.loop-n-test.true c.loop-n.invariant c.in_ok-push.ensures.items
+    c.in_ok-write_number.ensures
 
 pub returns : goal.returns
 returns c =

@@ -9,4 +9,4 @@ returns-then-n-lt10 g t c = same g.S.Sink.holds _ _ _ _ (sym (decimal_digit c.ar
 pub returns : goal.returns
 returns g t c =
     same g.S.Sink.holds _ _ _ _ (sym (decimal_step c.args.n c.if-n-lt10.false (omega arith)))
-    (then g.S.Sink.holds _ _ _ _ _ c.put-decimal.ensures c.put-2.ensures)
+    (then g.S.Sink.holds _ _ _ _ _ c.put_decimal.ensures c.put-2.ensures)

@@ -9,7 +9,7 @@ loop-b-preserved g c =
     let bs = c.args.bytes.now in
     let i = c.loop-b.b-index in
     more g.S.Sink.holds _ _ _ _ _ _ _ (ap hex_text (drop_more bs i 0 c.loop-b-test.true)) c.loop-b.invariant
-    (same g.S.Sink.holds _ _ _ _ (λ k. c.hex_digit.ensures k ∷ c.hex-digit-in-loop-b.ensures k ∷ []) c.put.ensures)
+    (same g.S.Sink.holds _ _ _ _ (λ k. c.hex_digit.ensures k ∷ c.hex_digit-in-loop-b.ensures k ∷ []) c.put.ensures)
 
 pub returns : goal.returns
 returns g c = done g.S.Sink.holds _ _ _ _ (ap hex_text (drop_all c.loop-b.b-index c.args.bytes.now c.loop-b-test.false)) c.loop-b.invariant

@@ -5,5 +5,5 @@ use Rattle.sink.proofs.write.put_padded.Goals as goal
 
 pub returns : goal.returns
 returns g c =
-    let missing : c.saturating-sub.result ≡ c.args.width - length (decimal c.args.n) = c.saturating-sub.ensures ∙ ap (λ k. c.args.width - k) c.decimal-len.ensures in
-    then g.S.Sink.holds _ _ _ _ _ (same g.S.Sink.holds _ _ _ _ (ap (λ k. repeated k (codes "0")) missing) c.put-repeated.ensures) c.put-decimal.ensures
+    let missing : c.saturating_sub.result ≡ c.args.width - length (decimal c.args.n) = c.saturating_sub.ensures ∙ ap (λ k. c.args.width - k) c.decimal_len.ensures in
+    then g.S.Sink.holds _ _ _ _ _ (same g.S.Sink.holds _ _ _ _ (ap (λ k. repeated k (codes "0")) missing) c.put_repeated.ensures) c.put_decimal.ensures

@@ -5,8 +5,8 @@ use Rattle.challenger.proofs.word_unit.WordUnitScalarUnit.observe_scalar.Goals a
 
 pub loop-i-preserved : goal.loop-i-preserved
 loop-i-preserved g c =
-    word_more g.C.CanObserve.sponge 4 number_le c.args.wire.now _ c.loop-i.i c.div-ceil-i-end.ensures _ _ _ c.loop-i-test.true c.quad-at.ensures c.observe.ensures ∙ c.loop-i.invariant
+    word_more g.C.CanObserve.sponge 4 number_le c.args.wire.now _ c.loop-i.i c.div_ceil-i-end.ensures _ _ _ c.loop-i-test.true c.quad_at.ensures c.observe.ensures ∙ c.loop-i.invariant
 
 pub returns : goal.returns
 returns g c =
-    sym (word_none g.C.CanObserve.sponge 4 number_le c.args.wire.now _ c.loop-i.i c.div-ceil-i-end.ensures _ c.loop-i-test.false) ∙ c.loop-i.invariant
+    sym (word_none g.C.CanObserve.sponge 4 number_le c.args.wire.now _ c.loop-i.i c.div_ceil-i-end.ensures _ c.loop-i-test.false) ∙ c.loop-i.invariant

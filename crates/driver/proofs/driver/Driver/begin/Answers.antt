@@ -9,5 +9,5 @@ use Rattle.driver.proofs.driver.Driver.begin.Goals as goal
 pub returns : goal.returns
 returns g c =
     let e = core_of g.C.CanObserve.means c.args.self.now in
-    let t = marked_so (begin c.args.kind c.args.label c.args.type-name) (marker_step Begin c.args.kind c.args.label c.args.type-name) refl e c.begin.result c.begin.ensures.answer in
+    let t = marked_so (begin c.args.kind c.args.label c.args.type_name) (marker_step Begin c.args.kind c.args.label c.args.type_name) refl e c.begin.result c.begin.ensures.answer in
     record { answer = sym (ap (λ o. o.answer) t); after = ap (λ p. record { play = p; state = e.state }) c.begin.ensures.whole ∙ sym (ap (λ o. o.left) t) }

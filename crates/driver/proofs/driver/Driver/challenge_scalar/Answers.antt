@@ -7,13 +7,13 @@ use Rattle.std.proofs.lemmas.Result.{err_from_is_err_and}
 use Rattle.std.specs.Result.{result_map_both}
 use Rattle.driver.proofs.driver.Driver.challenge_scalar.Goals as goal
 
-pub returns-in-err-interact : goal.returns-in-err-interact
-returns-in-err-interact g c =
+pub returns-in_err-interact : goal.returns-in_err-interact
+returns-in_err-interact g c =
     let e = core_of g.C.CanObserve.means c.args.self.now in
     let p = err_from_is_err_and c.from-residual.result c.from-residual.ensures.1 in
-    let h = c.in-err-interact.ensures in
+    let h = c.in_err-interact.ensures in
     let strong : 128 ≤ g.K.Codec.coding.wire.bits = omega arith in
-    let t = challenged_stops g.C.CanObserve.sponge c.args.label g.K.Codec.coding.wire e strong c.in-err-interact.field-0.0 (sym (h.answer ∙ ap (asked e.play) c.codec_step.ensures)) in
+    let t = challenged_stops g.C.CanObserve.sponge c.args.label g.K.Codec.coding.wire e strong c.in_err-interact.field-0.0 (sym (h.answer ∙ ap (asked e.play) c.codec_step.ensures)) in
     record {
       answer = ap (result_map_both inner (λ x. x)) (p.1 ∙ ap Err p.2) ∙ sym (ap (λ o. result_map_both g.K.Codec.uncoded (λ x. x) o.answer) t);
       after = ap (λ x. record { play = x; state = e.state }) h.whole ∙ sym (ap (λ o. o.left) t);
@@ -22,7 +22,7 @@ returns-in-err-interact g c =
 pub returns : goal.returns
 returns g c =
     let e = core_of g.C.CanObserve.means c.args.self.now in
-    let h = c.in-ok-interact.ensures in
+    let h = c.in_ok-interact.ensures in
     let strong : 128 ≤ g.K.Codec.coding.wire.bits = omega arith in
     let t = challenged_on g.C.CanObserve.sponge c.args.label g.K.Codec.coding.wire e strong (sym (h.answer ∙ ap (asked e.play) c.codec_step.ensures)) in
     record {

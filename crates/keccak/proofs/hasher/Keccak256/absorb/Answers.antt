@@ -9,7 +9,7 @@ use Rattle.keccak.proofs.hasher.Keccak256.absorb.Goals as goal
 pub returns-then-bytes-room : goal.returns-then-bytes-room
 returns-then-bytes-room c =
     let e =
-    part_fits c.args.self.now.state c.args.self.now.block c.args.bytes.now c.args.self.now.filled (omega arith) (omega arith) _ c.copy-from-slice.ensures.after in
+    part_fits c.args.self.now.state c.args.self.now.block c.args.bytes.now c.args.self.now.filled (omega arith) (omega arith) _ c.copy_from_slice.ensures.after in
     record { view = e; absorbed = λ m h. absorbed_more _ _ c.args.bytes.now m e h }
 
 pub returns : goal.returns
@@ -17,12 +17,12 @@ returns c =
     let a = c.args.self.now.state in
     let block = c.args.self.now.block in
     let n = c.args.self.now.filled in
-    let front = c.split-at.result.0.now in
-    let back = c.split-at.result.1.now in
-    let rest = c.copy-from-slice-3.ensures.after in
+    let front = c.split_at.result.0.now in
+    let back = c.split_at.result.1.now in
+    let rest = c.copy_from_slice-3.ensures.after in
     let e =
-    view_of (fed c.absorb-block.new.state back) _ _ c.absorb-blocks-rest.ensures.state (take_at _ _ _ (ap length rest) ∙ rest ∙ c.absorb-blocks-rest.ensures.rest)
-    ∙ ap (λ s. fed s back) c.absorb-block.ensures
-    ∙ part_fills a block front back n c.args.self.now.room (search rules) (search rules) _ c.copy-from-slice-2.ensures.after
-    ∙ ap (λ bs. fed a (take n block ++ bs)) (sym c.split-at.ensures.by_index.0) in
+    view_of (fed c.absorb_block.new.state back) _ _ c.absorb_blocks-rest.ensures.state (take_at _ _ _ (ap length rest) ∙ rest ∙ c.absorb_blocks-rest.ensures.rest)
+    ∙ ap (λ s. fed s back) c.absorb_block.ensures
+    ∙ part_fills a block front back n c.args.self.now.room (search rules) (search rules) _ c.copy_from_slice-2.ensures.after
+    ∙ ap (λ bs. fed a (take n block ++ bs)) (sym c.split_at.ensures.by_index.0) in
     record { view = e; absorbed = λ m h. absorbed_more _ _ c.args.bytes.now m e h }

@@ -14,6 +14,6 @@ returns-then-self-lt135 c =
 pub returns : goal.returns
 returns c =
     let e =
-    begun_none c.absorb-block.ensures
+    begun_none c.absorb_block.ensures
     ∙ byte_fills c.args.self.now.state c.args.self.now.block c.args.self.now.filled c.args.byte (omega arith) (search rules) in
     record { view = e; absorbed = λ m h. absorbed_more _ _ (c.args.byte ∷ []) m e h }

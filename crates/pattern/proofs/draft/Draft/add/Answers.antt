@@ -33,7 +33,7 @@ nest-requires c =
 
 -- a step that nests has a place
 free : (c : goal.After-way-told-2·1) → c.args.self.now.len < 64
-free c = let d = c.args.self.now in let h = met_free (take (d.len - 0) d.steps) _ _ _ c.in-ok-scopes.ensures.value in omega (arith, h, part d)
+free c = let d = c.args.self.now in let h = met_free (take (d.len - 0) d.steps) _ _ _ c.in_ok-scopes.ensures.value in omega (arith, h, part d)
 
 pub listed : goal.listed
 listed c = let d = c.args.self.now in omega (arith, free c, d.whole)
@@ -41,14 +41,14 @@ listed c = let d = c.args.self.now in omega (arith, free c, d.whole)
 pub bounds-self-self : goal.bounds-self-self
 bounds-self-self c = free c
 
-pub invariant-of-self : goal.invariant-of-self
-invariant-of-self c =
+pub invariant_of-self : goal.invariant_of-self
+invariant_of-self c =
     let d = c.args.self.now in
     let s = c.args.interaction in
-    let o = c.in-ok-scopes.scopes in
-    let h = met_free (take (d.len - 0) d.steps) _ _ _ c.in-ok-scopes.ensures.value in
+    let o = c.in_ok-scopes.scopes in
+    let h = met_free (take (d.len - 0) d.steps) _ _ _ c.in_ok-scopes.ensures.value in
     let lt : d.len < 64 = omega (arith, h, part d) in
-    let m = c.in-ok-scopes.ensures.value ∙ ap (λ k. met (take k d.steps) (open' d) s) (sub-zero d.len) in
+    let m = c.in_ok-scopes.ensures.value ∙ ap (λ k. met (take k d.steps) (open' d) s) (sub-zero d.len) in
     let e = pushed d.steps d.len (open' d) (fits d) (so d) s (held o.at o.depth) m (omega (arith, lt, d.whole)) in
     (length-set d.steps d.len s ∙ d.whole, (omega (arith, lt), (ap is_ok e, (ap openers e, tt))))
 
@@ -56,9 +56,9 @@ pub returns : goal.returns
 returns c =
     let d = c.args.self.now in
     let s = c.args.interaction in
-    let h = met_free (take (d.len - 0) d.steps) _ _ _ c.in-ok-scopes.ensures.value in
+    let h = met_free (take (d.len - 0) d.steps) _ _ _ c.in_ok-scopes.ensures.value in
     let lt : d.len < length d.steps = omega (arith, h, part d, d.whole) in
-    let m = c.in-ok-scopes.ensures.value ∙ ap (λ k. met (take k d.steps) (open' d) s) (sub-zero d.len) in
+    let m = c.in_ok-scopes.ensures.value ∙ ap (λ k. met (take k d.steps) (open' d) s) (sub-zero d.len) in
     record {
       answer = answered d.steps d.len (open' d) (fits d) (so d) s _ m;
       steps = take_more_set d.steps d.len s lt;

@@ -10,16 +10,16 @@ returns-in-Some c =
     let d = c.args.self.now in
     record { value = left_open (take d.len d.steps) (held d.scopes.at d.scopes.depth) _ (opened (opens (take d.len d.steps)) _ d.nested d.scoped) c.in-Some.ensures; refusal = refl }
 
-pub of-table-requires : goal.of-table-requires
-of-table-requires c =
+pub of_table-requires : goal.of_table-requires
+of_table-requires c =
     let d = c.args.self.now in
     record {
       whole = d.whole;
       fits = d.fits;
-      nested = ap is_ok (all_closed (take d.len d.steps) (held d.scopes.at d.scopes.depth) (opened (opens (take d.len d.steps)) _ d.nested d.scoped) c.in-default.ensures);
+      nested = ap is_ok (all_closed (take d.len d.steps) (held d.scopes.at d.scopes.depth) (opened (opens (take d.len d.steps)) _ d.nested d.scoped) c.in_default.ensures);
     }
 
 pub returns : goal.returns
 returns c =
     let d = c.args.self.now in
-    record { value = ap Ok c.of-table.ensures ∙ sym (all_closed (take d.len d.steps) (held d.scopes.at d.scopes.depth) (opened (opens (take d.len d.steps)) _ d.nested d.scoped) c.in-default.ensures); refusal = tt }
+    record { value = ap Ok c.of_table.ensures ∙ sym (all_closed (take d.len d.steps) (held d.scopes.at d.scopes.depth) (opened (opens (take d.len d.steps)) _ d.nested d.scoped) c.in_default.ensures); refusal = tt }

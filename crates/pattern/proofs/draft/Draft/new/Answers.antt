@@ -3,5 +3,5 @@ use Rattle.pattern.specs.Walk.{openers}
 use Rattle.pattern.proofs.Opening.{runs_none}
 use Rattle.pattern.proofs.draft.Draft.new.Goals as goal
 
-pub invariant-of-result : goal.invariant-of-result
-invariant-of-result c = (refl, (omega arith, (ap is_ok (runs_none [] []), (ap openers (runs_none [] []) ∙ sym c.new.ensures.items, tt))))
+pub invariant_of-result : goal.invariant_of-result
+invariant_of-result c = (refl, (omega arith, (ap is_ok (runs_none [] []), (ap openers (runs_none [] []) ∙ sym c.new.ensures.items, tt))))

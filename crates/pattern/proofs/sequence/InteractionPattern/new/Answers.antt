@@ -19,14 +19,14 @@ loop-position-init g c = record {
   so = ap (λ bs. walk g.S.Candidate.made [] bs c.args.rows.now) c.new-scopes.ensures.items;
 }
 
-pub returns-in-err-step : goal.returns-in-err-step
-returns-in-err-step g c =
+pub returns-in_err-step : goal.returns-in_err-step
+returns-in_err-step g c =
     let p = err_from_is_err_and c.from-residual.result c.from-residual.ensures.1 in
-    let no' = not_made g.S.Candidate.made c.args.rows.now c.loop-position.steps _ c.loop-position.position c.loop-position-test.true c.loop-position.invariant.so _ c.index-rows-position.is c.in-err-step.ensures in
+    let no' = not_made g.S.Candidate.made c.args.rows.now c.loop-position.steps _ c.loop-position.position c.loop-position-test.true c.loop-position.invariant.so _ c.index-rows-position.is c.in_err-step.ensures in
     rw (p.1, p.2) (sym no')
 
-pub slice-bounds-nest-end : goal.slice-bounds-nest-end
-slice-bounds-nest-end g c = let h = c.loop-position.invariant.few in let l = c.loop-position.invariant.long in search rules
+pub slice_bounds-nest-end : goal.slice_bounds-nest-end
+slice_bounds-nest-end g c = let h = c.loop-position.invariant.few in let l = c.loop-position.invariant.long in search rules
 
 pub nest-requires : goal.nest-requires
 nest-requires g c =
@@ -38,13 +38,13 @@ nest-requires g c =
       few = omega (arith, e, i.deep);
     }
 
-pub returns-in-err-scopes : goal.returns-in-err-scopes
-returns-in-err-scopes g c =
-    let p = err_from_is_err_and c.from-residual-in-err-scopes.result c.from-residual-in-err-scopes.ensures.1 in
+pub returns-in_err-scopes : goal.returns-in_err-scopes
+returns-in_err-scopes g c =
+    let p = err_from_is_err_and c.from-residual-in_err-scopes.result c.from-residual-in_err-scopes.ensures.1 in
     let bs = held c.loop-position.scopes.at c.loop-position.scopes.depth in
-    let s = c.in-ok-step.step in
-    let no' = not_nested g.S.Candidate.made c.args.rows.now c.loop-position.steps bs c.loop-position.position c.loop-position-test.true c.loop-position.invariant.so _ c.index-rows-position.is s c.in-ok-step.ensures
-    (c.in-err-scopes.ensures.value ∙ ap (λ k. met (take k c.loop-position.steps) bs s) (sub-zero c.loop-position.position)) in
+    let s = c.in_ok-step.step in
+    let no' = not_nested g.S.Candidate.made c.args.rows.now c.loop-position.steps bs c.loop-position.position c.loop-position-test.true c.loop-position.invariant.so _ c.index-rows-position.is s c.in_ok-step.ensures
+    (c.in_err-scopes.ensures.value ∙ ap (λ k. met (take k c.loop-position.steps) bs s) (sub-zero c.loop-position.position)) in
     rw (p.1, p.2) (sym no')
 
 -- a step that nests has a place
@@ -54,12 +54,12 @@ free g c =
     let steps = c.loop-position.steps in
     let p = c.loop-position.position in
     let long = length-take-le p steps (omega (arith, i.long, i.few)) in
-    let here = met_free (take (p - 0) steps) _ _ _ c.in-ok-scopes.ensures.value in
+    let here = met_free (take (p - 0) steps) _ _ _ c.in_ok-scopes.ensures.value in
     let same : length (take (p - 0) steps) ≡ p = ap (λ k. length (take k steps)) (sub-zero p) ∙ long in
     omega (arith, here, same)
 
-pub offset-bounds-steps-position : goal.offset-bounds-steps-position
-offset-bounds-steps-position g c = let h = free g c in search rules
+pub offset_bounds-steps-position : goal.offset_bounds-steps-position
+offset_bounds-steps-position g c = let h = free g c in search rules
 
 pub bounds-steps-position : goal.bounds-steps-position
 bounds-steps-position g c = free g c
@@ -69,29 +69,29 @@ loop-position-preserved g c =
     let i = c.loop-position.invariant in
     let steps = c.loop-position.steps in
     let p = c.loop-position.position in
-    let s = c.in-ok-step.step in
-    let o = c.in-ok-scopes.scopes in
+    let s = c.in_ok-step.step in
+    let o = c.in_ok-scopes.scopes in
     let bs = held c.loop-position.scopes.at c.loop-position.scopes.depth in
     let same : length (take (p - 0) steps) ≡ p = ap (λ k. length (take k steps)) (sub-zero p) ∙ length-take-le p steps (omega (arith, i.long, i.few)) in
-    let lows = c.in-ok-scopes.ensures.low in
+    let lows = c.in_ok-scopes.ensures.low in
     record {
       long = length-set steps p s ∙ i.long;
       few = omega (arith, free g c);
       low = subst (λ n. Low (n + 1) (held o.at o.depth)) same lows.0;
       deep = omega (arith, lows.1, same);
-      so = nested_more g.S.Candidate.made c.args.rows.now steps bs p c.loop-position-test.true i.so _ c.index-rows-position.is s (held o.at o.depth) c.in-ok-step.ensures
-          (c.in-ok-scopes.ensures.value ∙ ap (λ k. met (take k steps) bs s) (sub-zero p)) (omega (arith, i.long, free g c));
+      so = nested_more g.S.Candidate.made c.args.rows.now steps bs p c.loop-position-test.true i.so _ c.index-rows-position.is s (held o.at o.depth) c.in_ok-step.ensures
+          (c.in_ok-scopes.ensures.value ∙ ap (λ k. met (take k steps) bs s) (sub-zero p)) (omega (arith, i.long, free g c));
     }
 
 pub returns-in-Some : goal.returns-in-Some
 returns-in-Some g c =
     sym (open_at_end g.S.Candidate.made c.args.rows.now c.loop-position.steps _ c.loop-position.position c.loop-position-test.false c.loop-position.invariant.so c.in-Some.position c.in-Some.ensures.value)
 
-pub invariant-of-result : goal.invariant-of-result
-invariant-of-result g c =
+pub invariant_of-result : goal.invariant_of-result
+invariant_of-result g c =
     let i = c.loop-position.invariant in
     let all : c.loop-position.position ≡ length c.args.rows.now = omega arith in
-    let out = closed_at_end g.S.Candidate.made c.args.rows.now c.loop-position.steps _ c.loop-position.position c.loop-position-test.false i.so c.in-default.ensures.value in
+    let out = closed_at_end g.S.Candidate.made c.args.rows.now c.loop-position.steps _ c.loop-position.position c.loop-position-test.false i.so c.in_default.ensures.value in
     let good = validated_checked g.S.Candidate.made (take c.loop-position.position c.loop-position.steps) c.args.rows.now out in
     (i.long, (omega (arith, i.few, all), (subst (λ k. is_ok (checked (take k c.loop-position.steps)) ≡ _) all (ap is_ok good), tt)))
 
@@ -99,5 +99,5 @@ pub returns : goal.returns
 returns g c =
     let i = c.loop-position.invariant in
     let all : c.loop-position.position ≡ length c.args.rows.now = omega arith in
-    let out = closed_at_end g.S.Candidate.made c.args.rows.now c.loop-position.steps _ c.loop-position.position c.loop-position-test.false i.so c.in-default.ensures.value in
+    let out = closed_at_end g.S.Candidate.made c.args.rows.now c.loop-position.steps _ c.loop-position.position c.loop-position-test.false i.so c.in_default.ensures.value in
     ap (λ k. Ok (take k c.loop-position.steps)) (sym all) ∙ sym out

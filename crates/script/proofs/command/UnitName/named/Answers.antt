@@ -3,10 +3,10 @@ use Rattle.script.specs.Named.{unit_named}
 use Rattle.script.proofs.Unnamed.{no_unit, no_unit_bytes}
 use Rattle.script.proofs.command.UnitName.named.Goals as goal
 
-pub returns-in-default : goal.returns-in-default
-returns-in-default c = no_unit_bytes c.args.word.now c.in-default.ensures.cases.0
+pub returns-in_default : goal.returns-in_default
+returns-in_default c = no_unit_bytes c.args.word.now c.in_default.ensures.cases.0
 
-pub returns-in-default-word : goal.returns-in-default-word
-returns-in-default-word c =
-    no_unit c.in-Ok.word.now c.in-default-word.not_byte c.in-default-word.not-word ∙
+pub returns-in_default-word : goal.returns-in_default-word
+returns-in_default-word c =
+    no_unit c.in-Ok.word.now c.in_default-word.not_byte c.in_default-word.not-word ∙
     ap unit_named c.in-Ok.ensures.cases.0

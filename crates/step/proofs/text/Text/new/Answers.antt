@@ -30,8 +30,8 @@ loop-at-preserved c =
     let yes' : prints (get_or bs i 0) ≡ true = grind (arith, nat_tests) in
     copied_more bs c.loop-at.held i (omega arith) (omega arith) c.loop-at.invariant yes'
 
-pub invariant-of-result : goal.invariant-of-result
-invariant-of-result c =
+pub invariant_of-result : goal.invariant_of-result
+invariant_of-result c =
     let bs = c.args.bytes.now in
     let held = c.loop-at.held in
     let i = c.loop-at.at in

@@ -5,7 +5,7 @@ use Rattle.player.proofs.player.stepping.PatternPlayerPattern.interact.Goals as 
 
 pub returns : goal.returns
 returns c =
-    let asks = c.in-ok-expect.ensures in
+    let asks = c.in_ok-expect.ensures in
     let on : play_of c.advance.new.self ≡ advanced (play_of c.args.self.now) = c.advance.ensures ∙ ap advanced asks.after in
     record {
       answer = asks.answer;
