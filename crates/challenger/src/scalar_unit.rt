@@ -11,7 +11,7 @@ pub trait ScalarUnit: Unit {
     ghost scalars: { List ℕ → List Self.Item };
 
     fn observe_scalar<C: CanObserve<Self::Item>>(challenger: &mut C, wire: &[u8])
-        ensures { means challenger.new ≡ absorbed sponge (scalars wire.now) (means challenger.old) };
+        ensures { C.CanObserve.means challenger.new ≡ absorbed C.CanObserve.sponge (scalars wire.now) (C.CanObserve.means challenger.old) };
 
     ghost unitary: { Unitary scalars };
 }

@@ -13,7 +13,7 @@ pub trait Unit {
     ghost items: { List ℕ → List Self.Item };
 
     fn observe_bytes<C: CanObserve<Self::Item>>(challenger: &mut C, bytes: &[u8])
-        ensures { means challenger.new ≡ absorbed sponge (items bytes.now) (means challenger.old) };
+        ensures { C.CanObserve.means challenger.new ≡ absorbed C.CanObserve.sponge (items bytes.now) (C.CanObserve.means challenger.old) };
 
     ghost unitary: { Unitary items };
 }

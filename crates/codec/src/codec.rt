@@ -37,12 +37,12 @@ pub trait Codec<U: Unit, T> {
 
     // Absorb a value's items, in order.
     fn observe<C: CanObserve<U::Item>>(challenger: &mut C, value: &T)
-        ensures { means challenger.new ≡ absorbed sponge (coding.items (code value.now)) (means challenger.old) };
+        ensures { C.CanObserve.means challenger.new ≡ absorbed C.CanObserve.sponge (coding.items (code value.now)) (C.CanObserve.means challenger.old) };
 
     // A value of so many drawn bytes.
     fn sample<C: CanObserve<U::Item>>(challenger: &mut C) -> T
-        ensures value { result ≡ uncoded (coding.wire.sampled (drawn sponge coding.wire.draws (means challenger.old))) }
-        ensures after { means challenger.new ≡ turned sponge coding.wire.draws (means challenger.old) };
+        ensures value { result ≡ uncoded (coding.wire.sampled (drawn C.CanObserve.sponge coding.wire.draws (C.CanObserve.means challenger.old))) }
+        ensures after { C.CanObserve.means challenger.new ≡ turned C.CanObserve.sponge coding.wire.draws (C.CanObserve.means challenger.old) };
 
     // Writes the value after the filled part of `out`, and answers how far that is filled then.
     fn encode(value: &T, out: &mut [u8], filled: usize) -> Result<usize, TranscriptError>
