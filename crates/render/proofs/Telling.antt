@@ -7,7 +7,7 @@ use Rattle.sink.specs.Writing.{repeated, padded}
 use Rattle.sink.proofs.Reading.{decimal_tell, past_spaces}
 use Rattle.step.specs.TagCodes.{plain}
 use Rattle.step.specs.Texts.{content}
-use Rattle.step.proofs.Tags as tags
+use Rattle.step.specs.Comparing as tags
 use Rattle.step.proofs.Texts as texts
 use Rattle.step.specs.declared.interaction.Interaction.{Interaction}
 use Rattle.step.specs.declared.text.Text.{Text}
@@ -24,7 +24,7 @@ tag_tell a b r s ha hb e =
     let v = values_tell t.modulus u.modulus t.degree u.degree t.basis u.basis r s ha.modulus hb.modulus ha.degree hb.degree (ha.whole ∙ sym hb.whole) ha.bytes hb.bytes t.code
     (λ p. (t.no_modulus p ∙ sym (u.no_modulus (other p)), t.no_degree p ∙ sym (u.no_degree (other p)), t.no_basis p ∙ sym (u.no_basis (other p))))
     (e ∙ ap (λ c. tag_text_by c u.modulus u.degree u.basis ++ s) (sym same)) in
-    (tags.same_fields t u same v.0 v.1 v.2, v.3)
+    (tags.same_tag_fields t u same v.0 v.1 v.2, v.3)
 
 -- a step, and what follows it
 abbrev flat : Interaction → List ℕ → List ℕ

@@ -1,7 +1,14 @@
 -- Each test of a step's fields decides their equality, and so does the test of all six.
-use Rattle.std.proofs.Common.{◌≡◌, ℕ, Bool, true, false, cond, ◌&&◌, eqb, Decides, sym, refl, ap, ◌∙◌}
-use Rattle.std.proofs.lemmas.Slice.Eq.{bytes_eq-Decides}
+use Rattle.std.proofs.Common.{◌≡◌, ℕ, Bool, true, false, cond, ◌&&◌, eqb, Decides, sym, refl, ap, ◌∙◌, rules}
+use denote.Enum.Declared.{Declared}
+use denote.Enum.Bare.{Bare, sameb, same_true, true_same}
 use Rattle.std.proofs.lemmas.Bool.Decides.{Decides-eqb, Decides-and, Decides-like}
+use Rattle.step.specs.Comparing.{by_number, text_decides, tag_decides}
+use Rattle.step.specs.contracts.interaction.Hierarchy as hierarchy
+use Rattle.step.specs.contracts.interaction.Kind as kind
+use Rattle.step.specs.contracts.interaction.LengthPartialEq.TheImpl as length_eq
+use Rattle.step.specs.contracts.interaction.InteractionPartialEq.TheImpl as interaction_eq
+use Rattle.step.specs.contracts.tag_code.TagCode as tag_code
 use Rattle.step.specs.declared.interaction.Hierarchy.{Hierarchy}
 use Rattle.step.specs.declared.interaction.Hierarchy.TheVariants.{Atomic, Begin, End}
 use Rattle.step.specs.declared.interaction.Interaction.{Interaction}
@@ -14,12 +21,6 @@ use Rattle.step.specs.declared.tag_code.TagCode.TheVariants as code
 use Rattle.step.specs.declared.text.Text.{Text}
 use Rattle.step.specs.declared.type_tag.TypeTag.{TypeTag}
 use Rattle.step.specs.Steps.{hierarchy_no, kind_no, length_no, length_count, code_no, same_hierarchy, same_kind, same_length, same_text, same_tag, same_but_hierarchy, alike}
-use Rattle.step.proofs.Tags as tags
-use Rattle.step.proofs.Texts as texts
-
--- a test of numbers decides equality where the numbers can be read back
-by_number : {X : Type 0} (num : X → ℕ) (of : ℕ → X) → ((x : X) → of (num x) ≡ x) → (a b : X) → Decides (eqb (num a) (num b)) (a ≡ b)
-by_number num of back a b = Decides-like _ (λ e. sym (back a) ∙ ap of e ∙ back b) (λ e. ap num e) (Decides-eqb (num a) (num b))
 
 abbrev hierarchy_of : ℕ → Hierarchy
 hierarchy_of n = cond (eqb n 0) Atomic (cond (eqb n 1) Begin End)
@@ -61,26 +62,6 @@ length_decides a b =
     Decides-like _ (λ e. sym (length_back a) ∙ (λ i. length_of (e.0 i) (e.1 i)) ∙ length_back b) (λ e. (ap length_no e, ap length_count e))
     (Decides-and _ _ (Decides-eqb _ _) (Decides-eqb _ _))
 
-abbrev code_of : ℕ → TagCode
-code_of n = cond (eqb n 0) code.Marker (cond (eqb n 1) code.Bytes code.Algebra)
-
-code_back : (c : TagCode) → code_of (code_no c) ≡ c
-code_back code.Marker = refl
-code_back code.Bytes = refl
-code_back code.Algebra = refl
-
-pub text_decides : (a b : Text) → Decides (same_text a b) (a ≡ b)
-text_decides a b =
-    Decides-like _ (λ e. texts.same_fields a b e.1 e.0) (λ e. (ap (λ t. t.len) e, ap (λ t. t.bytes) e))
-    (Decides-and _ _ (Decides-eqb a.len b.len) (bytes_eq-Decides a.bytes b.bytes))
-
-pub tag_decides : (a b : TypeTag) → Decides (same_tag a b) (a ≡ b)
-tag_decides a b =
-    Decides-like _ (λ e. tags.same_fields a b e.0 e.1.0 e.1.1.0 e.1.1.1)
-    (λ e. (ap (λ t. t.code) e, (ap (λ t. t.modulus) e, (ap (λ t. t.degree) e, ap (λ t. t.basis) e))))
-    (Decides-and _ _ (by_number code_no code_of code_back a.code b.code)
-    (Decides-and _ _ (Decides-eqb _ _) (Decides-and _ _ (Decides-eqb _ _) (bytes_eq-Decides _ _))))
-
 pub alike_decides : (a b : Interaction) → Decides (alike a b) (a ≡ b)
 unfolding alike
 alike_decides a b =
@@ -90,13 +71,45 @@ alike_decides a b =
     (Decides-and _ _ (hierarchy_decides _ _) (Decides-and _ _ (kind_decides _ _) (Decides-and _ _ (text_decides _ _)
     (Decides-and _ _ (tag_decides _ _) (Decides-and _ _ (text_decides _ _) (length_decides _ _))))))
 
--- a test that came from the code's `==` is the test of the definition
-pub same_test : {X : Type 0} (x y : X) (r t : Bool) → Decides t (x ≡ y) → cond r (x ≡ y) (x ≡ y → ⊥) → r ≡ t
-same_test x y true t d h = sym (d.1 h)
-same_test x y false true d h = absurd (h (d.0 refl))
-same_test x y false false d h = refl
-
 pub same_decided : {X : Type 0} (x y : X) (r t : Bool) → Decides t (x ≡ y) → Decides r (x ≡ y) → r ≡ t
 same_decided x y true t d h = sym (d.1 (h.0 refl))
 same_decided x y false true d h = h.1 (d.0 refl)
 same_decided x y false false d h = refl
+
+-- ---- the code's `==` is the test of the definition
+
+bare : (D : Declared) → Bare D.parts → (a b : D.D) (t : Bool) → Decides t (a ≡ b) → sameb D a b ≡ t
+bare D h a b t d = same_decided a b (sameb D a b) t d (same_true D h a b, true_same D a b)
+
+pub hierarchy_is : (a b : Hierarchy) → sameb hierarchy.the_type a b ≡ same_hierarchy a b
+hierarchy_is a b = bare hierarchy.the_type (search rules) a b (same_hierarchy a b) (hierarchy_decides a b)
+
+pub kind_is : (a b : Kind) → sameb kind.the_type a b ≡ same_kind a b
+kind_is a b = bare kind.the_type (search rules) a b (same_kind a b) (kind_decides a b)
+
+pub code_decides : (a b : TagCode) (r : Bool) → r ≡ sameb tag_code.the_type a b → Decides r (a ≡ b)
+code_decides a b r e = (λ h. same_true tag_code.the_type (search rules) a b (sym e ∙ h), λ h. e ∙ true_same tag_code.the_type a b h)
+
+pub length_is : (a b : Length) → length_eq.ghosts.eq a b ≡ same_length a b
+length_is None None = refl
+length_is None Scalar = refl
+length_is None (Fixed m) = refl
+length_is None (Bounded m) = refl
+length_is Scalar None = refl
+length_is Scalar Scalar = refl
+length_is Scalar (Fixed m) = refl
+length_is Scalar (Bounded m) = refl
+length_is (Fixed n) None = refl
+length_is (Fixed n) Scalar = refl
+length_is (Fixed n) (Fixed m) = refl
+length_is (Fixed n) (Bounded m) = refl
+length_is (Bounded n) None = refl
+length_is (Bounded n) Scalar = refl
+length_is (Bounded n) (Fixed m) = refl
+length_is (Bounded n) (Bounded m) = refl
+
+pub alike_is : (a b : Interaction) → interaction_eq.ghosts.eq a b ≡ alike a b
+unfolding alike
+alike_is a b =
+    λ i. hierarchy_is a.hierarchy b.hierarchy i && (kind_is a.kind b.kind i && (same_text a.label b.label
+    && (same_tag a.type_tag b.type_tag && (same_text a.type_name b.type_name && length_is a.length b.length i))))

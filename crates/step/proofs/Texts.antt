@@ -1,17 +1,13 @@
 -- Two texts are one where what they hold is.
 use Rattle.std.proofs.Common.{◌≡◌, ℕ, ◌-◌, Bool, true, false, ◌&&◌, leb, List, ◌++◌, length, take, drop, replicate, Ok, Err, sym, refl, ap, ◌∙◌, ap₂, arith, leb-true}
-use denote.Struct.Record.{values_one}
 use Rattle.error.specs.declared.TranscriptError.{TranscriptError}
 use Rattle.error.specs.declared.TranscriptError.TheVariants.{InvalidField}
 use Rattle.std.proofs.lemmas.Bool.Decides.{nat_tests}
 use Rattle.std.proofs.lemmas.List.{length-take-le, take-append-drop, take_at}
-use Rattle.step.specs.contracts.text.Text.{struct, the_propositions}
+use Rattle.step.specs.Comparing.{same_fields}
 use Rattle.step.specs.declared.text.Text.{Text}
 use Rattle.step.specs.Printable.{all_print, is_text}
 use Rattle.step.specs.Texts.{content, text_of, made_by, made_text}
-
-pub same_fields : (a b : Text) → a.bytes ≡ b.bytes → a.len ≡ b.len → a ≡ b
-same_fields a b eb el = values_one struct the_propositions a b (λ i. (eb i, (el i, tt)))
 
 pub length_content : (t : Text) → length (content t) ≡ t.len
 length_content t = length-take-le t.len t.bytes (omega (arith, t.whole, t.fits))

@@ -3,3 +3,4 @@ pub mod Texts
 pub mod TagCodes
 pub mod Tags
 pub mod Steps
+pub mod Comparing

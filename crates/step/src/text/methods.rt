@@ -1,9 +1,9 @@
 // Making, reading and comparing texts.
 ghost use Rattle.std.specs.Prelude.{◌≡◌, Decides};
+ghost use Rattle.step.specs.Steps.{same_text};
 ghost use Rattle.step.specs.Texts.{content, made_text, u8_name};
-ghost use Rattle.std.specs.Cmp.Rules.{comparing};
-ghost use Rattle.std.proofs.Common.{rules, arith};
-ghost use Rattle.std.specs.Cmp as Keys;
+ghost use Rattle.std.specs.Cmp.{decided, partial_equiv_from_equiv};
+ghost use Rattle.step.specs.Comparing.{text_decides};
 
 use super::Text;
 use error::TranscriptError;
@@ -48,15 +48,18 @@ impl Text {
 }
 
 impl PartialEq for Text {
-    ghost equals = { λ a b r. Decides r (a ≡ b) };
+    ghost eq = { same_text };
 
-    ghost laws = { Keys.partial_equiv_from_equiv (first_of (Prim.search (comparing, rules), Prim.grind (arith, Self.row.coded.inj))) };
+    ghost laws = { partial_equiv_from_equiv (decided same_text text_decides) };
 
-    fn eq(&self, other: &Text) -> bool {
+    fn eq(&self, other: &Text) -> bool
+        ensures value { result ≡ same_text self.now other.now }
+        ensures decides { Decides result (self.now ≡ other.now) }
+    {
         (self.len == other.len) & (self.bytes == other.bytes)
     }
 }
 
 impl Eq for Text {
-    ghost laws = { first_of (Prim.search (comparing, rules), Prim.grind (arith, Self.row.coded.inj)) };
+    ghost laws = { decided same_text text_decides };
 }

@@ -1,9 +1,9 @@
 // Making and comparing type tags.
 ghost use Rattle.std.specs.Prelude.{◌≡◌, Decides};
+ghost use Rattle.step.specs.Steps.{same_tag};
 ghost use Rattle.step.specs.Tags.{marker, raw_bytes, algebra, unused, made_tag};
-ghost use Rattle.std.specs.Cmp.Rules.{comparing};
-ghost use Rattle.std.proofs.Common.{rules, arith};
-ghost use Rattle.std.specs.Cmp as Keys;
+ghost use Rattle.std.specs.Cmp.{decided, partial_equiv_from_equiv};
+ghost use Rattle.step.specs.Comparing.{tag_decides};
 
 use super::TypeTag;
 use crate::tag_code::TagCode;
@@ -77,11 +77,14 @@ impl TypeTag {
 }
 
 impl PartialEq for TypeTag {
-    ghost equals = { λ a b r. Decides r (a ≡ b) };
+    ghost eq = { same_tag };
 
-    ghost laws = { Keys.partial_equiv_from_equiv (first_of (Prim.search (comparing, rules), Prim.grind (arith, Self.row.coded.inj))) };
+    ghost laws = { partial_equiv_from_equiv (decided same_tag tag_decides) };
 
-    fn eq(&self, other: &TypeTag) -> bool {
+    fn eq(&self, other: &TypeTag) -> bool
+        ensures value { result ≡ same_tag self.now other.now }
+        ensures decides { Decides result (self.now ≡ other.now) }
+    {
         (self.code == other.code)
             & (self.modulus == other.modulus)
             & (self.degree == other.degree)
@@ -90,5 +93,5 @@ impl PartialEq for TypeTag {
 }
 
 impl Eq for TypeTag {
-    ghost laws = { first_of (Prim.search (comparing, rules), Prim.grind (arith, Self.row.coded.inj)) };
+    ghost laws = { decided same_tag tag_decides };
 }

@@ -1,10 +1,6 @@
-use Rattle.std.proofs.Common.{◌≡◌, Decides, rules}
-use Rattle.step.proofs.Sames.{same_decided, alike_decides}
+use Rattle.std.proofs.Common.{◌∙◌}
+use Rattle.step.proofs.Sames.{alike_is}
 use Rattle.step.proofs.interaction.Interaction.is_alike.Goals as goal
 
 pub returns : goal.returns
-returns c =
-    let a = c.args.self.now in
-    let b = c.args.other.now in
-    let d : Decides c.eq.result (a ≡ b) = search rules in
-    same_decided a b _ _ (alike_decides a b) d
+returns c = c.eq.ensures ∙ alike_is c.args.self.now c.args.other.now

@@ -36,10 +36,13 @@ invariant_of-result c =
     let held = c.loop-at.held in
     let i = c.loop-at.at in
     let all : i ≡ length bs = omega arith in
-    let short = c.if-bytes-gt-LONGEST.false in (
-      copied_whole bs held i all short c.loop-at.invariant,
-      (omega arith, (ap all_print (copied_content bs held i all short c.loop-at.invariant) ∙ copied_prints bs held i all short c.loop-at.invariant, (copied_blank bs held i all short c.loop-at.invariant, tt))),
-    )
+    let short = c.if-bytes-gt-LONGEST.false in
+    record {
+      whole = copied_whole bs held i all short c.loop-at.invariant;
+      fits = omega arith;
+      prints = ap all_print (copied_content bs held i all short c.loop-at.invariant) ∙ copied_prints bs held i all short c.loop-at.invariant;
+      blank = copied_blank bs held i all short c.loop-at.invariant;
+    }
 
 pub returns : goal.returns
 returns c =

@@ -1,5 +1,5 @@
 use Rattle.std.proofs.Common.{refl}
-use Rattle.step.proofs.Texts.{same_fields}
+use Rattle.step.specs.Comparing.{same_fields}
 use Rattle.step.proofs.text.Text.u8.Goals as goal
 
 pub returns : goal.returns

@@ -1,10 +1,12 @@
-use Rattle.std.proofs.Common.{ap}
-use Rattle.std.proofs.lemmas.Slice.Eq.{slice_eq-Decides}
-use Rattle.std.proofs.lemmas.Bool.Decides.{Decides-eqb, Decides-and, Decides-like}
-use Rattle.step.proofs.Texts.{same_fields}
+use Rattle.std.proofs.Common.{◌≡◌, ◌&&◌, ◌==◌, sym, ◌∙◌}
+use Rattle.step.specs.Comparing.{text_decides}
+use Rattle.step.specs.Steps.{same_text}
 use Rattle.step.proofs.text.methods.TextPartialEq.eq.Goals as goal
 
-pub returns : goal.returns
-returns c =
-    Decides-like _ (λ e. same_fields _ _ e.1 e.0) (λ e. (ap (λ t. t.len) e, ap (λ t. t.bytes) e))
-    (Decides-and _ _ (Decides-eqb _ _) (slice_eq-Decides Decides-eqb _ _ _ c.eq.ensures))
+pub returns-clause-decides : goal.returns-clause-decides
+returns-clause-decides c =
+    let a = c.args.self.now in
+    let b = c.args.other.now in
+    let d = text_decides a b in
+    let is : ((a.len == b.len) && c.eq.result) ≡ same_text a b = λ i. (a.len == b.len) && c.eq.ensures i in
+    (λ e. d.0 (sym is ∙ e), λ e. is ∙ d.1 e)
