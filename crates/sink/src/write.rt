@@ -17,7 +17,7 @@ pub fn decimal_len(n: u64) -> usize
 }
 
 pub fn put_decimal<S: Sink>(sink: &mut S, n: u64)
-    ensures { Takes holds sink.old (decimal n) sink.new }
+    ensures { Takes S.holds sink.old (decimal n) sink.new }
 {
     if n < 10 {
         sink.put(&[b'0' + n as u8]);
@@ -29,7 +29,7 @@ pub fn put_decimal<S: Sink>(sink: &mut S, n: u64)
 
 // `bytes` so many times.
 pub fn put_repeated<S: Sink>(sink: &mut S, bytes: &[u8], times: usize)
-    ensures { Takes holds sink.old (repeated times bytes.now) sink.new }
+    ensures { Takes S.holds sink.old (repeated times bytes.now) sink.new }
 {
     for _ in 0..times {
         sink.put(bytes);
@@ -38,7 +38,7 @@ pub fn put_repeated<S: Sink>(sink: &mut S, bytes: &[u8], times: usize)
 
 // With zeros on the left, so that it has at least `width` digits.
 pub fn put_padded<S: Sink>(sink: &mut S, n: u64, width: usize)
-    ensures { Takes holds sink.old (padded width n) sink.new }
+    ensures { Takes S.holds sink.old (padded width n) sink.new }
 {
     put_repeated(sink, b"0", width.saturating_sub(decimal_len(n)));
     put_decimal(sink, n);
@@ -53,7 +53,7 @@ fn hex_digit(d: u8) -> u8
 
 // Two lower-case digits for each byte.
 pub fn put_hex<S: Sink>(sink: &mut S, bytes: &[u8])
-    ensures { Takes holds sink.old (hex_text bytes.now) sink.new }
+    ensures { Takes S.holds sink.old (hex_text bytes.now) sink.new }
 {
     for b in bytes {
         sink.put(&[hex_digit(*b / 16), hex_digit(*b % 16)]);
