@@ -26,7 +26,7 @@ impl Pattern for PatternPlayer {
     }
 
     fn abort(&mut self)
-        ensures self_after { taken (play_of self.new) ≡ aborted (taken (play_of self.old)).steps }
+        ensures after { taken (play_of self.new) ≡ aborted (taken (play_of self.old)).steps }
         ensures play { play_of self.new ≡ halted (play_of self.old) }
     {
         self.ended = true;

@@ -32,14 +32,17 @@ nest-requires c =
     }
 
 -- a step that nests has a place
-free : (c : goal.After-way-told-2·1) → c.args.self.now.len < 64
-free c = let d = c.args.self.now in let h = met_free (take (d.len - 0) d.steps) _ _ _ c.in_ok-scopes.ensures.value in omega (arith, h, part d)
-
 pub listed : goal.listed
-listed c = let d = c.args.self.now in omega (arith, free c, d.whole)
+listed c =
+    let d = c.args.self.now in
+    let h = met_free (take (d.len - 0) d.steps) _ _ _ c.in_ok-scopes.ensures.value in
+    omega (arith, h, part d, d.whole)
 
 pub bounds-self-self : goal.bounds-self-self
-bounds-self-self c = free c
+bounds-self-self c =
+    let d = c.args.self.now in
+    let h = met_free (take (d.len - 0) d.steps) _ _ _ c.in_ok-scopes.ensures.value in
+    omega (arith, h, part d)
 
 pub invariant_of-self : goal.invariant_of-self
 invariant_of-self c =
@@ -50,7 +53,12 @@ invariant_of-self c =
     let lt : d.len < 64 = omega (arith, h, part d) in
     let m = c.in_ok-scopes.ensures.value ∙ ap (λ k. met (take k d.steps) (open' d) s) (sub-zero d.len) in
     let e = pushed d.steps d.len (open' d) (fits d) (so d) s (held o.at o.depth) m (omega (arith, lt, d.whole)) in
-    (length-set d.steps d.len s ∙ d.whole, (omega (arith, lt), (ap is_ok e, (ap openers e, tt))))
+    record {
+      whole = length-set d.steps d.len s ∙ d.whole;
+      fits = omega (arith, lt);
+      nested = ap is_ok e;
+      scoped = ap openers e;
+    }
 
 pub returns : goal.returns
 returns c =

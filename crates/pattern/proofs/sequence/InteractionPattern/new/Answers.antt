@@ -21,7 +21,7 @@ loop-position-init g c = record {
 
 pub returns-in_err-step : goal.returns-in_err-step
 returns-in_err-step g c =
-    let p = err_from_is_err_and c.from-residual.result c.from-residual.ensures.1 in
+    let p = err_from_is_err_and c.from_residual.result c.from_residual.ensures.1 in
     let no' = not_made g.S.Candidate.made c.args.rows.now c.loop-position.steps _ c.loop-position.position c.loop-position-test.true c.loop-position.invariant.so _ c.index-rows-position.is c.in_err-step.ensures in
     rw (p.1, p.2) (sym no')
 
@@ -40,7 +40,7 @@ nest-requires g c =
 
 pub returns-in_err-scopes : goal.returns-in_err-scopes
 returns-in_err-scopes g c =
-    let p = err_from_is_err_and c.from-residual-in_err-scopes.result c.from-residual-in_err-scopes.ensures.1 in
+    let p = err_from_is_err_and c.from_residual-in_err-scopes.result c.from_residual-in_err-scopes.ensures.1 in
     let bs = held c.loop-position.scopes.at c.loop-position.scopes.depth in
     let s = c.in_ok-step.step in
     let no' = not_nested g.S.Candidate.made c.args.rows.now c.loop-position.steps bs c.loop-position.position c.loop-position-test.true c.loop-position.invariant.so _ c.index-rows-position.is s c.in_ok-step.ensures
@@ -48,7 +48,7 @@ returns-in_err-scopes g c =
     rw (p.1, p.2) (sym no')
 
 -- a step that nests has a place
-free : (g : given.Over) (c : goal.In-ok-scopes g) → c.loop-position.position < 64
+free : (g : given.Over) (c : goal.In_ok-scopes g) → c.loop-position.position < 64
 free g c =
     let i = c.loop-position.invariant in
     let steps = c.loop-position.steps in
@@ -93,7 +93,11 @@ invariant_of-result g c =
     let all : c.loop-position.position ≡ length c.args.rows.now = omega arith in
     let out = closed_at_end g.S.Candidate.made c.args.rows.now c.loop-position.steps _ c.loop-position.position c.loop-position-test.false i.so c.in_default.ensures.value in
     let good = validated_checked g.S.Candidate.made (take c.loop-position.position c.loop-position.steps) c.args.rows.now out in
-    (i.long, (omega (arith, i.few, all), (subst (λ k. is_ok (checked (take k c.loop-position.steps)) ≡ _) all (ap is_ok good), tt)))
+    record {
+      whole = i.long;
+      fits = omega (arith, i.few, all);
+      nested = subst (λ k. is_ok (checked (take k c.loop-position.steps)) ≡ _) all (ap is_ok good);
+    }
 
 pub returns : goal.returns
 returns g c =
