@@ -1,7 +1,7 @@
 -- What a rendering tells.
 use Rattle.std.specs.Prelude.{◌≡◌, ℕ, ◌^◌, ◌<◌, List, [], ◌++◌, map, length}
 use Rattle.digits.specs.Digits.{Bytes}
-use Rattle.std.specs.List.{AllByRecursion as All}
+use Rattle.std.specs.List.{AllByRecursion}
 use Rattle.step.specs.Steps.{length_count}
 use Rattle.step.specs.declared.interaction.Hierarchy.{Hierarchy}
 use Rattle.step.specs.declared.interaction.Interaction.{Interaction}
@@ -34,7 +34,7 @@ pub record Stored (s : Interaction) : Type 0 where
 pub record Steps : Type 0 where
   pub list : List Interaction
   pub few : length list < 2 ^ 64
-  pub stored : All Stored list
+  pub stored : AllByRecursion Stored list
 
 pub record RenderingsTell : Type 0 where
   -- as many steps, alike in all that they show

@@ -10,7 +10,7 @@ use step::interaction::{Hierarchy, Interaction};
 
 // The type name is left out: it belongs to a compiler, and two ends built by different ones have to agree.
 fn put_step<S: Sink>(sink: &mut S, step: &Interaction)
-    ensures { Takes holds sink.old (step_text step.now) sink.new }
+    ensures { Takes S.holds sink.old (step_text step.now) sink.new }
 {
     let label = step.label.as_bytes();
     sink.put(name_of_hierarchy(step.hierarchy));
@@ -33,7 +33,7 @@ pub(crate) fn put_line<S: Sink>(
     depth: usize,
     step: &Interaction,
 )
-    ensures { Takes holds sink.old (line width position depth step.now) sink.new }
+    ensures { Takes S.holds sink.old (line width position depth step.now) sink.new }
 {
     put_padded(sink, position as u64, width);
     sink.put(b" ");

@@ -34,7 +34,7 @@ pub(crate) fn name_of_kind(kind: Kind) -> &'static [u8]
 }
 
 pub(crate) fn put_length<S: Sink>(sink: &mut S, length: Length)
-    ensures { Takes holds sink.old (length_text length) sink.new }
+    ensures { Takes S.holds sink.old (length_text length) sink.new }
 {
     match length {
         Length::None => sink.put(b"None"),
@@ -53,7 +53,7 @@ pub(crate) fn put_length<S: Sink>(sink: &mut S, length: Length)
 }
 
 pub(crate) fn put_tag<S: Sink>(sink: &mut S, tag: &TypeTag)
-    ensures { Takes holds sink.old (tag_text tag.now) sink.new }
+    ensures { Takes S.holds sink.old (tag_text tag.now) sink.new }
 {
     match tag.code {
         TagCode::Marker => sink.put(b"Marker"),

@@ -14,7 +14,7 @@ use step::interaction::Interaction;
 
 // Any steps are rendered, also with closers that close nothing and scopes that stay open.
 pub fn render<S: Sink>(sink: &mut S, steps: &[Interaction])
-    ensures { Takes holds sink.old (rendering steps.now) sink.new }
+    ensures { Takes S.holds sink.old (rendering steps.now) sink.new }
 {
     let count = steps.len() as u64;
     sink.put(b"Plonky3 Fiat-Shamir Transcript (");
