@@ -1,6 +1,6 @@
 -- A number read from wire bytes.
-use Rattle.std.proofs.Common.{◌≡◌, ℕ, ◌<◌, ◌≤◌, true, false, List, length, Some, None, refl, ap, ◌∙◌, subst, le-ltb, lt-ltb, eq-eqb}
-use Rattle.codecs.specs.Scalars.{canonical, canonical_number}
+use Rattle.std.proofs.Common.{◌≡◌, ℕ, ◌<◌, ◌≤◌, List, length, Some, None, ap, ◌∙◌, subst, le-ltb, lt-ltb, eq-eqb}
+use Rattle.codecs.specs.Scalars.{canonical_number}
 use Rattle.digits.specs.Digits.{number_le}
 
 module _ (wide modulus : ℕ) (bs : List ℕ) (long : length bs ≡ wide) (n : ℕ) (is : n ≡ number_le bs) where

@@ -1,5 +1,5 @@
 -- A number sampled byte by byte: what is left of the draws comes to the same, modulo the modulus.
-use Rattle.std.proofs.Common.{◌≡◌, ℕ, suc, ◌+◌, ◌-◌, ◌*◌, ◌/◌, ◌%◌, ◌<◌, ◌≤◌, List, [], ◌∷◌, sym, refl, ap, ◌∙◌, ap₂, mod-lt, mod-eq_of_lt, mul_assoc, arith}
+use Rattle.std.proofs.Common.{◌≡◌, ℕ, suc, ◌+◌, ◌-◌, ◌*◌, ◌/◌, ◌%◌, ◌<◌, ◌≤◌, List, [], ◌∷◌, sym, ap, ◌∙◌, mod-lt, mod-eq_of_lt, mul_assoc, arith}
 use native.Mathlib.Nat.{mod-add-div, add-mul-mod_self_left, mod-mod}
 use Rattle.challenger.specs.Sponge.{Sponge, drawn, turned}
 use Rattle.digits.specs.Digits.{number}

@@ -1,4 +1,4 @@
--- A codec of numbers by their remainders: little_endian on the wire, sampled from bytes read big-endian.
+-- A codec of numbers by their remainders: little-endian on the wire, sampled from bytes read big-endian.
 use Rattle.std.specs.Prelude.{ℕ, ◌%◌, Bool, cond, ◌&&◌, List, length, Some, None, Option, ◌==◌, nat_lt}
 use Rattle.codec.specs.Coding.{Wire, Coding}
 use Rattle.digits.specs.Digits.{number, little_endian, number_le}

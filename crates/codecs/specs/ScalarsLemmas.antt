@@ -1,9 +1,8 @@
 -- The codec of numbers by their remainders has a codec's meaning, for every modulus that its wire bytes hold.
-use Rattle.std.specs.Prelude.{◌≡◌, ℕ, ◌%◌, ◌^◌, ◌<◌, ◌≤◌, true, ◌↔◌, List, length, refl}
-use Rattle.std.proofs.Common.{sym, ap, ap₂, subst, ◌∙◌, mod-lt, mod-eq_of_lt, lt_of_lt_of_le, arith, eq-eqb, lt-ltb, ltb-true, eqb-true}
-use Rattle.std.proofs.Math.Nat.{mod-mod}
+use Rattle.std.specs.Prelude.{◌≡◌, ℕ, ◌%◌, ◌^◌, ◌<◌, ◌≤◌, true, ◌↔◌, List, length}
+use Rattle.std.proofs.Common.{sym, ap, ap₂, subst, ◌∙◌, mod-lt, mod-eq_of_lt, lt_of_lt_of_le, arith, eq-eqb, lt-ltb}
 use Rattle.challenger.specs.Unitary.{Unitary}
-use Rattle.codec.specs.Coding.{Wire, Coding, Value, Lawful, Limited}
+use Rattle.codec.specs.Coding.{Value, Lawful, Limited}
 use Rattle.digits.specs.Digits.{Bytes, number, little_endian, number_le}
 use Rattle.digits.proofs.LittleEndian as little
 use Rattle.std.proofs.lemmas.Bool.Decides.{nat_tests}

@@ -11,7 +11,7 @@ use error::TranscriptError;
 // What a codec answers for bytes that are no value.
 pub(crate) const NOT_CANONICAL: u8 = 1;
 
-// Writes `n` in `wide` little_endian bytes after the filled part.
+// Writes `n` in `wide` little-endian bytes after the filled part.
 pub(crate) fn encode_le(
     n: u64,
     wide: usize,
@@ -30,7 +30,7 @@ pub(crate) fn encode_le(
     Ok(filled + wide)
 }
 
-// The number below `modulus` that exactly `wide` little_endian bytes write.
+// The number below `modulus` that exactly `wide` little-endian bytes write.
 pub(crate) fn decode_le(bytes: &[u8], wide: usize, modulus: u64) -> Option<u64>
     requires { wide ≤ 8 }
     ensures { result ≡ canonical_number wide modulus bytes.now }

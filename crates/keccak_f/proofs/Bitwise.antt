@@ -1,8 +1,8 @@
 -- The words' operations, bit by bit.
 -- Assumes nothing.
-use Rattle.std.proofs.Common.{◌≡◌, ℕ, zero, suc, ◌+◌, ◌-◌, ◌*◌, ◌/◌, ◌%◌, ◌^◌, ◌<◌, ◌≤◌, sym, refl, ap, ◌∙◌, ap₂, ⊎_elim, lt_of_lt_of_le, mod-eq_of_lt, mul_assoc, add-mul, add_comm, one-mul, mul-one, div-one, arith, pow_pos, pow_mono}
+use Rattle.std.proofs.Common.{◌≡◌, ℕ, ◌+◌, ◌-◌, ◌*◌, ◌/◌, ◌%◌, ◌^◌, ◌<◌, ◌≤◌, sym, ap, ◌∙◌, ap₂, ⊎_elim, lt_of_lt_of_le, mod-eq_of_lt, mul_assoc, add-mul, add_comm, one-mul, mul-one, div-one, arith, pow_pos, pow_mono}
 use native.Mathlib.Nat.{div-eq_of_lt}
-use lib.Bits.{bit_and, bit_or, bit_xor, or_self, or_zero_l, or_zero_r}
+use lib.Bits.{bit_and, bit_or, bit_xor, or_self, or_zero_r}
 use Rattle.std.proofs.lemmas.Nat.{pow-add, shl-shr, shr-shr, shr_split, mod-pow-add, field_of, and_shr, or_shr, xor_shr, and_mod, or_mod, xor_mod, div-mul-add, mod_below, shr_below}
 use Rattle.std.proofs.lemmas.Bool.{cases_lt, cases_eq}
 use Rattle.keccak_f.specs.Words.{rot, flip, bit_of}

@@ -1,8 +1,7 @@
 -- Prefixes written and read: what fits, and that each comes back from the other.
-use Rattle.std.proofs.Common.{◌≡◌, ℕ, ◌+◌, ◌-◌, ◌*◌, ◌%◌, ◌^◌, ◌<◌, ◌≤◌, true, false, ltb, leb, List, ◌++◌, length, take, drop, replicate, Ok, sym, ap, ◌∙◌, subst, ap₂, mod-eq_of_lt, arith, pow_pos, pow_mono, le-ltb, lt-ltb, le-leb}
-use borrow.Author.Tests.{lt-leb}
+use Rattle.std.proofs.Common.{◌≡◌, ℕ, ◌+◌, ◌-◌, ◌*◌, ◌%◌, ◌^◌, ◌<◌, ◌≤◌, true, false, List, ◌++◌, length, take, drop, replicate, Ok, sym, ap, ◌∙◌, subst, ap₂, mod-eq_of_lt, arith, pow_pos, pow_mono, le-ltb, lt-ltb, le-leb}
 use Rattle.std.proofs.lemmas.Nat.{pow-add}
-use Rattle.std.proofs.lemmas.List.{take_at, append-nil, length-append, length-take-le, append_cancel_right, drop-replicate}
+use Rattle.std.proofs.lemmas.List.{take_at, length-append, length-take-le, append_cancel_right, drop-replicate}
 use Rattle.std.proofs.ByRecursion.{All-take}
 use Rattle.std.proofs.lemmas.Bool.Decides.{nat_tests}
 use Rattle.digits.specs.Digits.{big_endian, number, Bytes}

@@ -1,6 +1,6 @@
 -- What a reader and a writer of prefixes rely on.
-use Rattle.std.specs.Prelude.{◌≡◌, ℕ, ◌^◌, ◌<◌, ◌≤◌, true, List, ◌++◌, length, take, Ok}
-use Rattle.digits.specs.Digits.{big_endian, number, Bytes}
+use Rattle.std.specs.Prelude.{◌≡◌, ℕ, ◌^◌, ◌<◌, ◌≤◌, true, List, ◌++◌, take, Ok}
+use Rattle.digits.specs.Digits.{big_endian, Bytes}
 use Rattle.length_prefix.specs.Prefix.{width, fits, encoded, decoded}
 
 -- w holds max, and no smaller number of bytes does

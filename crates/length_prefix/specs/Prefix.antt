@@ -1,4 +1,4 @@
--- The length prefix: the width that a maximum gives, and a length in that many big_endian bytes.
+-- The length prefix: the width that a maximum gives, and a length in that many big-endian bytes.
 use Rattle.std.specs.Prelude.{ℕ, zero, suc, ◌+◌, ◌-◌, ◌^◌, Bool, cond, ◌&&◌, ltb, List, ◌++◌, length, take, replicate, Ok, Err, Result, nat_le, nat_lt}
 use Rattle.error.specs.declared.TranscriptError.{TranscriptError}
 use Rattle.error.specs.declared.TranscriptError.TheVariants.{InvalidPrefix}

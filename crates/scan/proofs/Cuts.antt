@@ -1,9 +1,9 @@
 -- Where the first line and the first word end, and what is left after them.
-use Rattle.std.proofs.Common.{◌≡◌, ℕ, suc, ◌+◌, ◌<◌, ◌≤◌, Bool, true, false, cond, eqb, List, [], ◌∷◌, length, get_or, take, drop, sym, refl, ap, ◌∙◌, subst, inl, inr, add-one, arith}
+use Rattle.std.proofs.Common.{◌≡◌, ℕ, suc, ◌+◌, ◌<◌, true, false, cond, eqb, List, [], ◌∷◌, length, get_or, take, drop, sym, refl, ap, ◌∙◌, subst, inl, inr, add-one, arith}
 use Rattle.std.proofs.lemmas.List.{at_drop_more, drop_more, take_all, drop_all, nil_from_length}
 use Rattle.std.proofs.lemmas.Bool.{cond-true, cond-false, cases_Bool, eq-eqb, ne_eqb}
 use Rattle.scan.specs.Lines.{lines, place, onto}
-use Rattle.scan.specs.Words.{words, trimmed, begun}
+use Rattle.scan.specs.Words.{words, trimmed}
 
 -- a search for b that has come to i
 module _ (b : ℕ) (xs : List ℕ) (i : ℕ) (lt : i < length xs) where

@@ -1,7 +1,7 @@
 -- What is left of a word of digits decides, one digit after another.
-use Rattle.std.proofs.Common.{◌≡◌, ℕ, ◌+◌, ◌-◌, ◌*◌, ◌^◌, ◌<◌, ◌≤◌, List, [], ◌∷◌, Some, None, Option, refl, arith}
+use Rattle.std.proofs.Common.{◌≡◌, ℕ, ◌+◌, ◌-◌, ◌*◌, ◌≤◌, List, [], ◌∷◌, Some, None, arith}
 use Rattle.std.proofs.lemmas.Bool.Decides.{nat_tests}
-use Rattle.scan.specs.Numbers.{writes, after, more, all_digits, is_digit}
+use Rattle.scan.specs.Numbers.{writes, after, more}
 
 pub writes_grows : (n : ℕ) (bs : List ℕ) → n ≤ writes n bs
 writes_grows n [] = omega arith

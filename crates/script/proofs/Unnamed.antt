@@ -28,12 +28,12 @@ no_codec word a b c =
       unnamed word (codes "GoldilocksShort") c,
     )
 
-pub no_query : (name : List ℕ) (args : List (List ℕ)) → (name ≡ codes "width" → ⊥) → (name ≡ codes "encode_len" → ⊥) → (name ≡ codes "decode_len" → ⊥) → (name ≡ codes "keccak" → ⊥) → (name ≡ codes "items" → ⊥) → (name ≡ codes "encode" → ⊥) → (name ≡ codes "decode" → ⊥) → (name ≡ codes "bits" → ⊥) → (name ≡ codes "tag" → ⊥) → None ≡ query_named name args
+pub no_query : (name : List ℕ) (args : List (List ℕ)) → (name ≡ codes "width" → ⊥) → (name ≡ codes "encode-len" → ⊥) → (name ≡ codes "decode-len" → ⊥) → (name ≡ codes "keccak" → ⊥) → (name ≡ codes "items" → ⊥) → (name ≡ codes "encode" → ⊥) → (name ≡ codes "decode" → ⊥) → (name ≡ codes "bits" → ⊥) → (name ≡ codes "tag" → ⊥) → None ≡ query_named name args
 no_query name args not-width not-encode-len not-decode-len not-keccak not-items not-encode not-decode not-bits not-tag =
     simp (
       unnamed name (codes "width") not-width,
-      unnamed name (codes "encode_len") not-encode-len,
-      unnamed name (codes "decode_len") not-decode-len,
+      unnamed name (codes "encode-len") not-encode-len,
+      unnamed name (codes "decode-len") not-decode-len,
       unnamed name (codes "keccak") not-keccak,
       unnamed name (codes "items") not-items,
       unnamed name (codes "encode") not-encode,
@@ -68,8 +68,8 @@ module _ (name : List ℕ) (not-text : IsUtf8 name → ⊥) where
   unfolding encode
   no_query_bytes args =
       no_query name args (other (codes "width") (codes "width", (refl, refl)))
-      (other (codes "encode_len") (codes "encode_len", (refl, refl)))
-      (other (codes "decode_len") (codes "decode_len", (refl, refl)))
+      (other (codes "encode-len") (codes "encode-len", (refl, refl)))
+      (other (codes "decode-len") (codes "decode-len", (refl, refl)))
       (other (codes "keccak") (codes "keccak", (refl, refl)))
       (other (codes "items") (codes "items", (refl, refl)))
       (other (codes "encode") (codes "encode", (refl, refl)))

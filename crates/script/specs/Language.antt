@@ -1,5 +1,5 @@
 -- The script language: what each line asks.
-use Rattle.std.specs.Prelude.{ℕ, Bool, true, false, cond, List, [], ◌∷◌, length, Some, None, codes, Option, ◌==◌, nat_lt}
+use Rattle.std.specs.Prelude.{ℕ, Bool, false, cond, List, [], ◌∷◌, length, Some, None, codes, Option, ◌==◌, nat_lt}
 use Rattle.std.specs.Option.{option_map}
 use Rattle.std.specs.Str.{bytes_eq}
 use Rattle.scan.specs.Words.{words}
@@ -72,8 +72,8 @@ value_word k word = bound (numeral word) (fitting k)
 abbrev pub query_named : List ℕ → List (List ℕ) → Option Query
 query_named name args =
     cond (bytes_eq name (codes "width")) (number (λ max. end (width max)) args) (
-    cond (bytes_eq name (codes "encode_len")) (number (λ len. number (λ w. end (encode_len len w))) args) (
-    cond (bytes_eq name (codes "decode_len")) (bytes (λ bs. number (λ w. end (decode_len bs w))) args) (
+    cond (bytes_eq name (codes "encode-len")) (number (λ len. number (λ w. end (encode_len len w))) args) (
+    cond (bytes_eq name (codes "decode-len")) (bytes (λ bs. number (λ w. end (decode_len bs w))) args) (
     cond (bytes_eq name (codes "keccak")) (bytes (λ bs. end (keccak bs)) args) (
     cond (bytes_eq name (codes "items")) (next unit_named (λ u. bytes (λ bs. end (items u bs))) args) (
     cond (bytes_eq name (codes "encode")) (next codec_named (λ k. next (value_word k) (λ v. end (encode v))) args) (

@@ -1,7 +1,7 @@
 use Rattle.std.proofs.Common.{◌≡◌, ◌+◌, ◌-◌, ◌<◌, ◌≤◌, length, take, sym, ap, ◌∙◌, arith}
 use native.Mathlib.Nat.{sub-zero}
 use Rattle.digits.specs.Digits.{little_endian}
-use Rattle.digits.proofs.Eight.{eight_le, eight_le_is}
+use Rattle.digits.proofs.Eight.{eight_le_is}
 use Rattle.digits.proofs.LittleEndian.{long, first}
 use Rattle.codecs.proofs.Writing.{no_room, unchanged, has_room, written}
 use Rattle.codecs.proofs.scalar.encode_le.Goals as goal

@@ -1,4 +1,4 @@
-use Rattle.std.proofs.Common.{refl, arith}
+use Rattle.std.proofs.Common.{refl}
 use Rattle.codecs.proofs.Sampling.{sampling_none, sampling_more, sampled, moved_on}
 use Rattle.codecs.proofs.scalar.sample_be.Goals as goal
 

@@ -1,6 +1,5 @@
 -- Each turn takes in one block.
-use Rattle.std.proofs.Common.{◌≡◌, sym, ap, ◌∙◌, arith, rules}
-use Rattle.keccak.specs.Blocks.{View}
+use Rattle.std.proofs.Common.{sym, ap, ◌∙◌, arith}
 use Rattle.keccak.proofs.Blocks.{fed_none, fed_more}
 use Rattle.keccak.proofs.sponge.absorb_blocks.Goals as goal
 

@@ -1,5 +1,4 @@
 -- The whole blocks go in, and the end is made from the bytes after them.
-use Rattle.std.proofs.Common.{◌≡◌, sym}
 use Rattle.keccak.proofs.Blocks.{sponge_is}
 use Rattle.keccak.proofs.sponge.sponge256.Goals as goal
 

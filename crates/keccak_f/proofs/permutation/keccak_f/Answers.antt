@@ -1,6 +1,5 @@
 -- Each turn is two rounds.
-use Rattle.std.proofs.Common.{◌≡◌, ◌+◌, ◌*◌, sym, ap, ◌∙◌, arith}
-use Rattle.keccak_f.specs.Permutation.{rounds}
+use Rattle.std.proofs.Common.{◌≡◌, ◌+◌, ◌*◌, sym, arith}
 use Rattle.keccak_f.proofs.Rounds.{rounds_none, rounds_more}
 use Rattle.keccak_f.proofs.permutation.keccak_f.Goals as goal
 

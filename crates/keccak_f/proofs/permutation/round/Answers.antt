@@ -1,5 +1,5 @@
 -- Each turn writes the next lane.
-use Rattle.std.proofs.Common.{◌≡◌, ap, ◌∙◌, arith, rules}
+use Rattle.std.proofs.Common.{ap, ◌∙◌, arith, rules}
 use Rattle.keccak_f.specs.Permutation.{Round, ι}
 use Rattle.keccak_f.specs.Lanes.{chi_lane}
 use Rattle.keccak_f.proofs.Filling.{filling_none, filling_at, filling_more, filling_all}

@@ -1,7 +1,7 @@
 -- The bytes fit into the block that is begun, or fill it: then whole blocks go in, and a new one is begun.
-use Rattle.std.proofs.Common.{◌≡◌, ◌++◌, length, take, sym, ap, ◌∙◌, arith, rules}
+use Rattle.std.proofs.Common.{◌++◌, length, take, sym, ap, ◌∙◌, arith, rules}
 use Rattle.std.proofs.lemmas.List.{take_at}
-use Rattle.keccak.specs.Blocks.{View, fed}
+use Rattle.keccak.specs.Blocks.{fed}
 use Rattle.keccak.proofs.Blocks.{view_of}
 use Rattle.keccak.proofs.Parts.{absorbed_more, part_fits, part_fills}
 use Rattle.keccak.proofs.hasher.Keccak256.absorb.Goals as goal

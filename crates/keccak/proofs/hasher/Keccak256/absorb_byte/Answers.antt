@@ -1,6 +1,5 @@
 -- The byte fits into the block that is begun, or fills it: then the block goes in.
-use Rattle.std.proofs.Common.{◌≡◌, [], ◌∷◌, ap, ◌∙◌, arith, rules}
-use Rattle.keccak.specs.Blocks.{View}
+use Rattle.std.proofs.Common.{[], ◌∷◌, ◌∙◌, arith, rules}
 use Rattle.keccak.proofs.Blocks.{begun_none}
 use Rattle.keccak.proofs.Parts.{absorbed_more, byte_fits, byte_fills}
 use Rattle.keccak.proofs.hasher.Keccak256.absorb_byte.Goals as goal

@@ -8,5 +8,5 @@ returns-in_default c = no_unit_bytes c.args.word.now c.in_default.ensures.cases.
 
 pub returns-in_default-word : goal.returns-in_default-word
 returns-in_default-word c =
-    no_unit c.in-Ok.word.now c.in_default-word.not_byte c.in_default-word.not-word ∙
+    no_unit c.in-Ok.word.now c.in_default-word.not-byte c.in_default-word.not-word ∙
     ap unit_named c.in-Ok.ensures.cases.0
