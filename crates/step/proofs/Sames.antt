@@ -17,10 +17,7 @@ use Rattle.step.specs.declared.interaction.Kind.TheVariants.{Protocol, Public, M
 use Rattle.step.specs.declared.interaction.Length.{Length}
 use Rattle.step.specs.declared.interaction.Length.TheVariants.{None, Scalar, Fixed, Bounded}
 use Rattle.step.specs.declared.tag_code.TagCode.{TagCode}
-use Rattle.step.specs.declared.tag_code.TagCode.TheVariants as code
-use Rattle.step.specs.declared.text.Text.{Text}
-use Rattle.step.specs.declared.type_tag.TypeTag.{TypeTag}
-use Rattle.step.specs.Steps.{hierarchy_no, kind_no, length_no, length_count, code_no, same_hierarchy, same_kind, same_length, same_text, same_tag, same_but_hierarchy, alike}
+use Rattle.step.specs.Steps.{hierarchy_no, kind_no, length_no, length_count, same_hierarchy, same_kind, same_length, same_text, same_tag, alike}
 
 abbrev hierarchy_of : ℕ → Hierarchy
 hierarchy_of n = cond (eqb n 0) Atomic (cond (eqb n 1) Begin End)

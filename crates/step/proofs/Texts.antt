@@ -1,5 +1,5 @@
 -- Two texts are one where what they hold is.
-use Rattle.std.proofs.Common.{◌≡◌, ℕ, ◌-◌, Bool, true, false, ◌&&◌, leb, List, ◌++◌, length, take, drop, replicate, Ok, Err, sym, refl, ap, ◌∙◌, ap₂, arith, leb-true}
+use Rattle.std.proofs.Common.{◌≡◌, ℕ, ◌-◌, Bool, true, false, ◌&&◌, leb, List, ◌++◌, length, drop, replicate, Ok, Err, sym, refl, ap, ◌∙◌, ap₂, arith, leb-true}
 use Rattle.error.specs.declared.TranscriptError.{TranscriptError}
 use Rattle.error.specs.declared.TranscriptError.TheVariants.{InvalidField}
 use Rattle.std.proofs.lemmas.Bool.Decides.{nat_tests}

@@ -1,6 +1,6 @@
 -- That the tests of two texts and of two tags decide whether they are one: the laws of their `==`.
-use Rattle.std.specs.Prelude.{◌≡◌, ℕ, Bool, cond, ◌==◌, refl}
-use Rattle.std.proofs.Common.{eqb, Decides, sym, ap, ◌∙◌}
+use Rattle.std.specs.Prelude.{◌≡◌, ℕ, cond, ◌==◌, refl}
+use Rattle.std.proofs.Common.{Decides, sym, ap, ◌∙◌}
 use denote.Struct.Record.{values_one}
 use Rattle.std.proofs.lemmas.Slice.Eq.{bytes_eq-Decides}
 use Rattle.std.proofs.lemmas.Bool.Decides.{Decides-eqb, Decides-and, Decides-like}

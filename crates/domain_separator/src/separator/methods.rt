@@ -48,7 +48,7 @@ impl DomainSeparator {
     }
 
     pub fn seed<U: Unit, C: CanObserve<U::Item>>(&self, challenger: &mut C)
-        ensures { means challenger.new ≡ absorbed sponge (items (domain_seed (domain_of self.now))) (means challenger.old) }
+        ensures { C.CanObserve.means challenger.new ≡ absorbed C.CanObserve.sponge (U.items (domain_seed (domain_of self.now))) (C.CanObserve.means challenger.old) }
     {
         U::observe_bytes(challenger, &self.seed_bytes());
     }
