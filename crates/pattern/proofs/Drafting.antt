@@ -1,5 +1,5 @@
 -- A draft: what closing it comes to, and one step more.
-use Rattle.std.proofs.Common.{◌≡◌, ℕ, zero, suc, ◌+◌, ◌<◌, ◌≤◌, List, [], ◌∷◌, ◌++◌, length, take, set, Some, None, Ok, Err, sym, refl, ap, ◌∙◌, subst, arith}
+use Rattle.std.proofs.Common.{◌≡◌, ℕ, zero, suc, ◌+◌, ◌<◌, ◌≤◌, List, [], ◌∷◌, length, take, set, Some, None, Ok, Err, sym, refl, ap, ◌∙◌, subst, arith}
 use Rattle.error.specs.declared.TranscriptError.TheVariants.{MissingEnd}
 use Rattle.std.proofs.lemmas.List.{take_more_set, length-take-le}
 use Rattle.step.specs.declared.interaction.Interaction.{Interaction}

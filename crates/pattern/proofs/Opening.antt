@@ -1,5 +1,5 @@
 -- The openers of a sequence: one step more, how far they reach, and what closing it comes to.
-use Rattle.std.proofs.Common.{◌≡◌, ℕ, ◌+◌, ◌<◌, ◌≤◌, Bool, true, false, cond, ltb, List, [], ◌∷◌, ◌++◌, length, is_ok, Ok, Err, Result, sym, refl, ap, ◌∙◌, subst, arith, length-append}
+use Rattle.std.proofs.Common.{◌≡◌, ℕ, ◌+◌, ◌≤◌, Bool, true, false, cond, ltb, List, [], ◌∷◌, ◌++◌, length, is_ok, Ok, Err, Result, sym, refl, ap, ◌∙◌, subst, arith, length-append}
 use Rattle.error.specs.declared.TranscriptError.{TranscriptError}
 use Rattle.error.specs.declared.TranscriptError.TheVariants.{MismatchedBeginEnd, InvalidKind, PatternFull}
 use Rattle.std.proofs.lemmas.List.{append_assoc, append-nil}

@@ -1,5 +1,5 @@
 -- A stack in an array: its top, what is below it, and one more on it.
-use Rattle.std.proofs.Common.{◌≡◌, ℕ, zero, suc, ◌+◌, ◌-◌, ◌<◌, ◌≤◌, ◌≢◌, List, [], ◌∷◌, length, get_or, set, Some, None, sym, refl, ap, ◌∙◌, add-one, arith, get_or-set_other, get_or-set_same}
+use Rattle.std.proofs.Common.{◌≡◌, ℕ, zero, suc, ◌+◌, ◌-◌, ◌<◌, ◌≤◌, ◌≢◌, List, [], ◌∷◌, length, get_or, set, Some, refl, ap, add-one, arith, get_or-set_other, get_or-set_same}
 use Rattle.pattern.specs.Patterns.{Low}
 use Rattle.pattern.specs.Stack.{held, top, rest}
 

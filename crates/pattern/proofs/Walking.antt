@@ -1,8 +1,8 @@
 -- The walk over a sequence: one candidate more, its end, and that the steps it gives pass it themselves.
-use Rattle.std.proofs.Common.{◌≡◌, ℕ, ◌+◌, ◌<◌, ◌≤◌, true, List, [], ◌∷◌, ◌++◌, length, get_or, take, drop, set, is_ok, Some, None, Ok, Err, Result, sym, refl, ap, ◌∙◌, subst, arith}
+use Rattle.std.proofs.Common.{◌≡◌, ℕ, ◌+◌, ◌<◌, ◌≤◌, List, [], ◌∷◌, ◌++◌, length, get_or, take, drop, set, Some, None, Ok, Err, Result, sym, refl, ap, ◌∙◌, arith}
 use Rattle.error.specs.declared.TranscriptError.{TranscriptError}
 use Rattle.error.specs.declared.TranscriptError.TheVariants.{MissingEnd}
-use Rattle.std.proofs.lemmas.List.{drop_more, drop_all, take_more_set, append_assoc, append-nil, length-take-le, take_all}
+use Rattle.std.proofs.lemmas.List.{drop_more, drop_all, take_more_set, append_assoc, append-nil}
 use Rattle.step.specs.declared.interaction.Interaction.{Interaction}
 use Rattle.pattern.specs.Patterns.{Low}
 use Rattle.pattern.specs.Rows.{then}

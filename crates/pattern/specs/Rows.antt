@@ -1,5 +1,5 @@
 -- The step that a plain row says.
-use Rattle.std.specs.Prelude.{ℕ, Ok, Err, Result}
+use Rattle.std.specs.Prelude.{Ok, Err, Result}
 use Rattle.error.specs.declared.TranscriptError.{TranscriptError}
 use Rattle.pattern.specs.declared.row.Row.{Row}
 use Rattle.step.specs.declared.interaction.Interaction.{Interaction}

@@ -1,5 +1,5 @@
 -- What a recorder or a player means: the steps that it has taken, and whether it has ended.
-use Rattle.std.specs.Prelude.{Bool, true, false, cond, not, ◌||◌, List, [], ◌∷◌, ◌++◌, Ok, Err, Result, ◌==◌}
+use Rattle.std.specs.Prelude.{Bool, true, not, ◌||◌, List, [], ◌∷◌, ◌++◌, Ok, Err, Result, ◌==◌}
 use Rattle.error.specs.declared.TranscriptError.{TranscriptError}
 use Rattle.error.specs.Numbers.{number}
 use Rattle.step.specs.declared.interaction.Interaction.{Interaction}

@@ -1,7 +1,6 @@
 -- What a draft's own refusal comes to at the finish.
-use Rattle.std.proofs.Common.{◌≡◌, true, ◌||◌, eqb, List, Ok, Err, Result, sym, refl, ap, subst}
+use Rattle.std.proofs.Common.{◌≡◌, true, ◌||◌, eqb, List, Ok, Err, Result, sym, refl, subst}
 use Rattle.error.specs.declared.TranscriptError.{TranscriptError}
-use Rattle.error.specs.Numbers.{number}
 use Rattle.pattern.specs.Patterns.{Unclosed}
 use Rattle.state.specs.Records.{Finishes}
 use Rattle.step.specs.declared.interaction.Interaction.{Interaction}

@@ -1,4 +1,4 @@
-use Rattle.std.proofs.Common.{◌≡◌, take, is_ok, Ok, sym, refl, ap, ◌∙◌}
+use Rattle.std.proofs.Common.{take, is_ok, Ok, sym, refl, ap, ◌∙◌}
 use Rattle.pattern.specs.Stack.{held}
 use Rattle.pattern.specs.Walk.{opens}
 use Rattle.pattern.proofs.Drafting.{left_open, all_closed}

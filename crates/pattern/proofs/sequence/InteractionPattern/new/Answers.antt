@@ -1,4 +1,4 @@
-use Rattle.std.proofs.Common.{◌≡◌, ◌+◌, ◌-◌, ◌<◌, ◌≤◌, [], length, take, is_ok, Ok, Err, sym, refl, ap, ◌∙◌, subst, arith, length-set, rules}
+use Rattle.std.proofs.Common.{◌≡◌, ◌+◌, ◌-◌, ◌<◌, [], length, take, is_ok, Ok, sym, refl, ap, ◌∙◌, subst, arith, length-set, rules}
 use native.Mathlib.Nat.{sub-zero}
 use Rattle.std.proofs.lemmas.List.{length-take-le}
 use Rattle.std.proofs.lemmas.Result.{err_from_is_err_and}
@@ -6,7 +6,7 @@ use Rattle.pattern.specs.Patterns.{Low}
 use Rattle.pattern.specs.Stack.{held}
 use Rattle.pattern.specs.Walk.{met, walk, checked}
 use Rattle.pattern.proofs.Nesting.{met_free}
-use Rattle.pattern.proofs.Walking.{Going, not_made, not_nested, nested_more, open_at_end, closed_at_end, validated_checked}
+use Rattle.pattern.proofs.Walking.{not_made, not_nested, nested_more, open_at_end, closed_at_end, validated_checked}
 use Rattle.pattern.proofs.sequence.InteractionPattern.new.Given as given
 use Rattle.pattern.proofs.sequence.InteractionPattern.new.Goals as goal
 

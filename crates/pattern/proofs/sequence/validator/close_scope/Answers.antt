@@ -1,7 +1,5 @@
-use Rattle.std.proofs.Common.{◌≡◌, true, false, cond, length, Ok, Err, sym, ap, ◌∙◌, subst}
-use Rattle.error.specs.declared.TranscriptError.TheVariants.{MismatchedBeginEnd}
+use Rattle.std.proofs.Common.{true, false, length, Ok, sym, ap, ◌∙◌, subst}
 use Rattle.pattern.specs.Patterns.{Low}
-use Rattle.pattern.specs.Stack.{held, rest}
 use Rattle.pattern.proofs.Nesting.{closed_alone, closed_by}
 use Rattle.pattern.proofs.Stacks.{low_rest}
 use Rattle.pattern.proofs.sequence.validator.close_scope.Goals as goal

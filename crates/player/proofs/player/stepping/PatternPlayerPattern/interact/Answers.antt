@@ -1,4 +1,4 @@
-use Rattle.std.proofs.Common.{◌≡◌, sym, ap, ◌∙◌}
+use Rattle.std.proofs.Common.{◌≡◌, ap, ◌∙◌}
 use Rattle.player.specs.Plays.{play_of, taken, advanced}
 use Rattle.player.proofs.Playing.{accepted_taken}
 use Rattle.player.proofs.player.stepping.PatternPlayerPattern.interact.Goals as goal
