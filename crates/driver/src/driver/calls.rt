@@ -16,10 +16,10 @@ use codec::codec::Codec;
 use domain_separator::separator::DomainSeparator;
 use error::TranscriptError;
 use message::step::codec_step;
-use player::interface::{Pattern, begin, end};
+use player::interface::Pattern;
 use player::player::PatternPlayer;
 use std::marker::PhantomData;
-use step::interaction::{Kind, Length};
+use step::interaction::{Hierarchy, Interaction, Kind, Length};
 use step::text::Text;
 
 // Bits of statistical security that a challenge has to have.
@@ -43,14 +43,14 @@ impl<C: CanObserve<U::Item>, U: Unit> Driver<C, U> {
         ensures answer { result ≡ (marked (begins kind label type_name) (core_of C.CanObserve.means self.old)).answer }
         ensures after { core_of C.CanObserve.means self.new ≡ (marked (begins kind label type_name) (core_of C.CanObserve.means self.old)).left }
     {
-        begin(&mut self.player, kind, label, type_name)
+        self.player.interact(Interaction::marker(Hierarchy::Begin, kind, label, type_name))
     }
 
     pub fn end(&mut self, kind: Kind, label: Text, type_name: Text) -> Result<(), TranscriptError>
         ensures answer { result ≡ (marked (ends kind label type_name) (core_of C.CanObserve.means self.old)).answer }
         ensures after { core_of C.CanObserve.means self.new ≡ (marked (ends kind label type_name) (core_of C.CanObserve.means self.old)).left }
     {
-        end(&mut self.player, kind, label, type_name)
+        self.player.interact(Interaction::marker(Hierarchy::End, kind, label, type_name))
     }
 
     // A codec that declares too few bits is refused before the pattern is looked at.

@@ -35,7 +35,7 @@ loop-index-preserved g c =
     let d = decoded_ok k.wire g.K.Codec.uncoded _ c.in-Ok.value c.in-Ok.ensures in
     let good = ap k.wire.decodes (sym here) ∙ d.0 in
     let is = d.1 ∙ ap g.K.Codec.uncoded here in
-    let v = piece_value k.wire s c.args.count l.index c.loop-index-test.true c.requires.long (bytes_typed s c.type-inv.bytes) good in
+    let v = piece_value k.wire s c.args.count l.index c.loop-index-test.true c.requires.long (bytes_typed s c.type_inv.bytes) good in
     let size = ap (λ n. n * k.wire.wide) (add-one l.index) ∙ suc-mul l.index k.wire.wide in (
       omega arith,
       partly_more g.C.CanObserve.sponge k g.K.Codec.code g.K.Codec.uncoded s c.args.count c.args.out.now (g.C.CanObserve.means c.args.challenger.now) l.index l.out (g.C.CanObserve.means l.challenger) c.loop-index-test.true l.invariant.1 c.requires.room c.in-Ok.value _ good is (ap g.K.Codec.code is ∙ g.met.K.Codec.reads _ v) c.observe.ensures,
