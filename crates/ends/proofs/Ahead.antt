@@ -1,5 +1,5 @@
 -- The steps ahead of a player: when one is left, which it is, and what playing it leaves.
-use Rattle.std.proofs.Common.{◌≡◌, ℕ, zero, suc, ◌+◌, ◌<◌, ◌≤◌, Bool, true, false, cond, ltb, List, [], ◌∷◌, length, drop, Ok, Err, sym, refl, ap, ◌∙◌, add-one, arith, drop-cons, ltb-false, ltb-true, le-ltb, lt-ltb}
+use Rattle.std.proofs.Common.{◌≡◌, ℕ, ◌+◌, ◌<◌, ◌≤◌, Bool, true, false, cond, ltb, List, [], ◌∷◌, length, drop, Ok, Err, sym, refl, ap, ◌∙◌, add-one, arith, drop-cons, ltb-false, ltb-true}
 use Rattle.ends.specs.Shared.{ahead, some_left}
 use Rattle.error.specs.declared.TranscriptError.TheVariants.{Ended, StepsLeft}
 use Rattle.pattern.specs.Walk.{no_step, step_at}

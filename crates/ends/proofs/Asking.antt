@@ -1,10 +1,10 @@
 -- Where a list of questions stops, and the three that every step is put, by what the player answers.
-use Rattle.std.proofs.Common.{◌≡◌, ℕ, ◌<◌, ◌≤◌, Bool, true, false, cond, not, ltb, leb, List, [], ◌∷◌, ◌++◌, length, is_ok, Some, Ok, Err, Result, sym, refl, ap, ◌∙◌, arith, ltb-false, ltb-true, lt-ltb, le-leb}
+use Rattle.std.proofs.Common.{◌≡◌, ℕ, ◌<◌, Bool, true, false, cond, not, ltb, List, [], ◌∷◌, ◌++◌, length, is_ok, Some, Ok, Err, sym, refl, ap, ◌∙◌, arith, ltb-true}
 use Rattle.codec.specs.Coding.{Wire}
 use Rattle.ends.proofs.Ahead.{clash, ahead_some, some_left_is}
 use Rattle.ends.specs.Calls.{Call, step}
 use Rattle.ends.specs.Questions.{Outcome, Question, ask, put}
-use Rattle.ends.specs.Shared.{Core, stopped, ahead, some_left, is_that, next_is, stepping, drawing}
+use Rattle.ends.specs.Shared.{Core, stopped, ahead, some_left, is_that, next_is, stepping}
 use Rattle.error.specs.declared.TranscriptError.{TranscriptError}
 use Rattle.error.specs.declared.TranscriptError.TheVariants.{Ended, NoStepLeft, StepMismatch}
 use Rattle.pattern.specs.Walk.{step_at}

@@ -1,5 +1,5 @@
 -- A string cut into values, place by place: the one at an index, and those before the first that a codec does not take.
-use Rattle.std.proofs.Common.{◌≡◌, ℕ, zero, suc, ◌+◌, ◌*◌, ◌<◌, ◌≤◌, Bool, true, false, cond, ◌&&◌, List, [], ◌∷◌, length, get_or, take, drop, sym, refl, ap, ◌∙◌, ap₂, suc-mul, arith}
+use Rattle.std.proofs.Common.{◌≡◌, ℕ, zero, suc, ◌+◌, ◌*◌, ◌<◌, Bool, true, false, cond, ◌&&◌, List, [], ◌∷◌, length, get_or, take, drop, refl, ap, ◌∙◌, ap₂, suc-mul, arith}
 use Rattle.codec.specs.Coding.{Wire}
 use Rattle.ends.specs.Verifier.{cut, all_good, good}
 use Rattle.std.proofs.lemmas.List.{drop-drop}

@@ -1,15 +1,15 @@
 -- What a call does to the core of an end is what it does to the end.
-use Rattle.std.proofs.Common.{◌≡◌, ℕ, ◌<◌, ◌≤◌, Bool, true, false, cond, List, [], ◌∷◌, map, Some, Ok, Err, Result, sym, refl, ap, ◌∙◌, le-leb}
+use Rattle.std.proofs.Common.{◌≡◌, ℕ, ◌<◌, ◌≤◌, Bool, true, false, cond, List, [], ◌∷◌, map, Some, Ok, Err, sym, refl, ◌∙◌, le-leb}
 use borrow.Author.Tests.{lt-leb}
 use Rattle.challenger.specs.Sponge.{Sponge}
 use Rattle.codec.specs.Coding.{Wire}
-use Rattle.ends.proofs.Asking.{no_to, put_no, put_on, stepping_on, stepping_stops}
+use Rattle.ends.proofs.Asking.{no_to, stepping_on, stepping_stops}
 use Rattle.ends.specs.Calls.{Call, challenge, step, codec_step}
-use Rattle.ends.specs.Questions.{Outcome, Question, ask, put, yes}
+use Rattle.ends.specs.Questions.{Outcome, Question, put, yes}
 use Rattle.ends.specs.Shared.{Core, stopped, stepped, marked, challenged, sample, sampled_state, stepping}
 use Rattle.error.specs.declared.TranscriptError.{TranscriptError}
 use Rattle.error.specs.declared.TranscriptError.TheVariants.{WeakCodec}
-use Rattle.player.specs.Plays.{Play, Answer, asked, moved}
+use Rattle.player.specs.Plays.{Answer, asked, moved}
 use Rattle.step.specs.declared.interaction.Interaction.{Interaction}
 use Rattle.step.specs.declared.interaction.Kind.TheVariants.{Challenge}
 use Rattle.step.specs.declared.interaction.Length.TheVariants.{Scalar}

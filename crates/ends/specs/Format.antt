@@ -1,11 +1,11 @@
 -- The formats: the values that calls are given, the string that they make, and what a challenger takes in for them.
 use Rattle.std.specs.Prelude.{ℕ, ◌≤◌, List, [], ◌∷◌, ◌++◌, map, length}
-use Rattle.challenger.specs.Sponge.{Sponge, absorbed, turned}
+use Rattle.challenger.specs.Sponge.{Sponge, turned}
 use Rattle.codec.specs.Coding.{Wire, Coding, Value, Lawful}
 use Rattle.digits.specs.Digits.{big_endian, Bytes}
 use Rattle.ends.specs.Calls.{Call, scalars, bytes, challenge, begin, end, abort, wired}
 use Rattle.length_prefix.specs.Prefix.{width}
-use Rattle.std.specs.List.{flat_map, AllByRecursion as All}
+use Rattle.std.specs.List.{flat_map, AllByRecursion}
 
 -- What a call is given beside its arguments: values, each as its wire bytes; bytes; or nothing.
 abbrev pub Given : Call Wire → Type 0
@@ -22,7 +22,7 @@ Values (c ∷ cs) = Given c × Values cs
 
 -- as many as the length form allows, each one of the codec's
 abbrev pub Allowed : (c : Call Wire) → Given c → Type 0
-Allowed (scalars label w max) vs = (length vs ≤ max) × All (Value w) vs
+Allowed (scalars label w max) vs = (length vs ≤ max) × AllByRecursion (Value w) vs
 Allowed (bytes label max) bs = (length bs ≤ max) × Bytes bs
 Allowed (challenge label w) g = Unit {0}
 Allowed (begin kind label name) g = Unit {0}

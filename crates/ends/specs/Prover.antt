@@ -1,10 +1,10 @@
 -- The prover's end, with the buffer that its calls are given: its calls and its finish.
-use Rattle.std.specs.Prelude.{ℕ, ◌+◌, cond, not, List, [], ◌∷◌, ◌++◌, map, length, take, drop, Ok, Err, Result, nat_le}
+use Rattle.std.specs.Prelude.{ℕ, ◌+◌, List, [], ◌∷◌, ◌++◌, length, take, drop, Result, nat_le}
 use Rattle.challenger.specs.Sponge.{Sponge, absorbed}
 use Rattle.codec.specs.Coding.{Wire, Coding}
 use Rattle.domain_separator.specs.Domains.{Domain}
 use Rattle.ends.specs.Calls.{Call, scalars, bytes, challenge, begin, end, abort, wired}
-use Rattle.ends.specs.Format.{Given, Values, prefix, written}
+use Rattle.ends.specs.Format.{Given, prefix, written}
 use Rattle.ends.specs.Questions.{Outcome, Question, ask, put, yes}
 use Rattle.ends.specs.Shared as shared
 use Rattle.ends.specs.Shared.{Core, seeded, stopped, stepped, sample, sampled_state}

@@ -1,7 +1,7 @@
 -- What prover and verifier share: a player and a challenger's state, and the questions that every step is put.
-use Rattle.std.specs.Prelude.{ℕ, Bool, true, false, not, List, [], ◌∷◌, map, drop, Some, None, Option, nat_le}
+use Rattle.std.specs.Prelude.{ℕ, Bool, true, false, not, List, [], ◌∷◌, drop, Some, None, Option, nat_le}
 use Rattle.challenger.specs.Sponge.{Sponge, absorbed, drawn, turned}
-use Rattle.codec.specs.Coding.{Wire, Coding}
+use Rattle.codec.specs.Coding.{Wire}
 use Rattle.domain_separator.specs.Domains.{Domain, domain_seed}
 use Rattle.ends.specs.Calls.{Call, challenge, step}
 use Rattle.ends.specs.Questions.{Outcome, Question, ask, put, yes}

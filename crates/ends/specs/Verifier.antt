@@ -1,5 +1,5 @@
 -- The verifier's end over a string: its calls and its finish.
-use Rattle.std.specs.Prelude.{ℕ, zero, suc, ◌+◌, ◌*◌, Bool, true, false, cond, ◌&&◌, List, [], ◌∷◌, ◌++◌, length, take, drop, Ok, Err, Result, ◌==◌, nat_le, slice_index_or}
+use Rattle.std.specs.Prelude.{ℕ, zero, suc, ◌+◌, ◌*◌, Bool, true, cond, ◌&&◌, List, [], ◌∷◌, ◌++◌, length, take, drop, Ok, Err, Result, ◌==◌, nat_le, slice_index_or}
 use Rattle.challenger.specs.Sponge.{Sponge, absorbed}
 use Rattle.codec.specs.Coding.{Wire, Coding}
 use Rattle.digits.specs.Digits.{number}

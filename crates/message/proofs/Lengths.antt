@@ -1,5 +1,5 @@
 -- Reading a count: what the tests of the code come to.
-use Rattle.std.proofs.Common.{◌≡◌, ℕ, ◌+◌, ◌-◌, ◌<◌, ◌≤◌, true, false, cond, leb, List, length, take, drop, Ok, Err, sym, refl, ap, ◌∙◌, subst, ap₂, arith, le-leb}
+use Rattle.std.proofs.Common.{◌≡◌, ℕ, ◌+◌, ◌-◌, ◌<◌, ◌≤◌, true, false, cond, leb, List, length, take, drop, Ok, Err, ap, ◌∙◌, ap₂, arith, le-leb}
 use borrow.Author.Tests.{lt-leb}
 use Rattle.digits.specs.Digits.{number}
 use Rattle.error.specs.declared.TranscriptError.TheVariants.{InvalidPrefix}

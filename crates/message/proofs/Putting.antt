@@ -1,9 +1,9 @@
 -- Writing after the filled part of a buffer: with room and without, and one part after another.
-use Rattle.std.proofs.Common.{◌≡◌, ℕ, ◌+◌, ◌-◌, ◌<◌, ◌≤◌, true, false, List, [], ◌∷◌, ◌++◌, length, take, drop, Ok, Err, sym, refl, ap, ◌∙◌, ap₂, arith, le-leb}
+use Rattle.std.proofs.Common.{◌≡◌, ℕ, ◌+◌, ◌-◌, ◌<◌, ◌≤◌, List, [], ◌++◌, length, take, drop, Ok, Err, sym, ap, ◌∙◌, ap₂, arith, le-leb}
 use borrow.Author.Tests.{lt-leb}
 use borrow.Rule.Slice.PartMut.{put_mid}
 use Rattle.error.specs.declared.TranscriptError.TheVariants.{ShortBuffer}
-use Rattle.message.specs.Payloads.{wrote, Put, putting}
+use Rattle.message.specs.Payloads.{wrote, putting}
 use Rattle.std.proofs.lemmas.List.{append_assoc, length-append, length-take-le, take_at, drop_at, drop-drop}
 
 module _ {S : Type 0} (bs out : List ℕ) (filled : ℕ) (s s' : S) where

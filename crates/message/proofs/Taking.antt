@@ -1,5 +1,5 @@
 -- Taking values where there are enough of them and room for them: it comes to what reading comes to.
-use Rattle.std.proofs.Common.{◌≡◌, ℕ, ◌*◌, ◌≤◌, Bool, true, false, cond, leb, List, length, Ok, Err, sym, refl, ap, ◌∙◌, ap₂, le-leb}
+use Rattle.std.proofs.Common.{◌≡◌, ℕ, ◌*◌, ◌≤◌, Bool, true, false, cond, List, length, Ok, Err, sym, refl, ap, le-leb}
 use Rattle.challenger.specs.Sponge.{Sponge}
 use Rattle.codec.specs.Coding.{Coding}
 use Rattle.ends.proofs.Cuts.{good_all}

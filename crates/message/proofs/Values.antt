@@ -1,5 +1,5 @@
 -- Values read one after another: after i of them, and at the end.
-use Rattle.std.proofs.Common.{◌≡◌, ℕ, suc, ◌+◌, ◌-◌, ◌*◌, ◌<◌, ◌≤◌, Bool, true, false, cond, List, [], ◌∷◌, ◌++◌, map, length, get_or, take, drop, set, Ok, Err, Result, sym, refl, ap, ◌∙◌, subst, ap₂, mul-le-mul_right, suc-mul, add-one, arith, w8, Fits}
+use Rattle.std.proofs.Common.{◌≡◌, ℕ, suc, ◌+◌, ◌*◌, ◌<◌, ◌≤◌, Bool, true, false, cond, List, [], ◌∷◌, ◌++◌, map, length, get_or, take, drop, set, Ok, Err, Result, sym, refl, ap, ◌∙◌, ap₂, mul-le-mul_right, suc-mul, add-one, arith, w8, Fits}
 use Rattle.challenger.specs.Sponge.{Sponge, absorbed}
 use Rattle.codec.specs.Coding.{Wire, Coding, Value, decoded}
 use Rattle.digits.specs.Digits.{Bytes}

@@ -2,7 +2,7 @@
 use Rattle.std.specs.Prelude.{ℕ, ◌+◌, ◌*◌, cond, List, [], ◌∷◌, ◌++◌, map, length, take, drop, Ok, Err, Result, nat_le}
 use Rattle.challenger.specs.Sponge.{Sponge, absorbed}
 use Rattle.codec.specs.Coding.{Coding}
-use Rattle.ends.specs.Questions.{Outcome, Question, ask, put}
+use Rattle.ends.specs.Questions.{Outcome, ask, put}
 use Rattle.ends.specs.Verifier.{cut, good, all_good, bad_value}
 use Rattle.error.specs.declared.TranscriptError.{TranscriptError}
 use Rattle.error.specs.declared.TranscriptError.TheVariants.{ShortBuffer, MissingValues, ShortValues}

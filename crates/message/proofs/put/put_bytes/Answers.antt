@@ -1,4 +1,4 @@
-use Rattle.std.proofs.Common.{◌≡◌, ◌+◌, ◌<◌, ◌≤◌, ◌++◌, length, Ok, sym, ap, ◌∙◌, ap₂, arith, leb-false, leb-true}
+use Rattle.std.proofs.Common.{◌≡◌, ◌+◌, ◌++◌, length, Ok, sym, ap, ◌∙◌, arith, leb-false, leb-true}
 use Rattle.challenger.specs.Sponge.{absorbed}
 use Rattle.message.proofs.Putting.{puts, full, wrote_more}
 use Rattle.message.specs.Payloads.{wrote}

@@ -1,4 +1,4 @@
-use Rattle.std.proofs.Common.{◌≡◌, ◌+◌, ◌*◌, ◌<◌, ◌≤◌, ◌++◌, map, length, Ok, sym, ap, ◌∙◌, ap₂, arith, leb-false, leb-true}
+use Rattle.std.proofs.Common.{◌≡◌, ◌+◌, ◌*◌, ◌++◌, map, length, Ok, sym, ap, ◌∙◌, ap₂, arith, leb-false, leb-true}
 use Rattle.challenger.specs.Sponge.{absorbed}
 use Rattle.message.proofs.Putting.{puts, full, wrote_more}
 use Rattle.message.proofs.Writing.{joined_wide, joined_map}

@@ -1,6 +1,6 @@
-use Rattle.std.proofs.Common.{◌≡◌, ℕ, ◌+◌, ◌*◌, ◌≤◌, length, take, sym, ap, ◌∙◌, subst, arith}
+use Rattle.std.proofs.Common.{◌≡◌, ℕ, take, ap, ◌∙◌, arith}
 use Rattle.challenger.specs.Sponge.{absorbed}
-use Rattle.message.proofs.Writing.{Partly, partly_none, partly_more, fills}
+use Rattle.message.proofs.Writing.{partly_none, partly_more, fills}
 use Rattle.message.specs.Payloads.{wrote}
 use Rattle.std.proofs.lemmas.List.{take_all}
 use Rattle.std.specs.List.{flat_map}

@@ -1,4 +1,4 @@
-use Rattle.std.proofs.Common.{◌≡◌, ℕ, suc, ◌+◌, ◌-◌, ◌*◌, ◌<◌, ◌≤◌, List, length, take, drop, Err, sym, refl, ap, ◌∙◌, ap₂, mul-le-mul_right, suc-mul, add-one, arith}
+use Rattle.std.proofs.Common.{◌≡◌, ℕ, suc, ◌+◌, ◌-◌, ◌*◌, ◌≤◌, List, take, drop, Err, sym, ap, ◌∙◌, ap₂, mul-le-mul_right, suc-mul, add-one, arith}
 use Rattle.error.specs.declared.TranscriptError.TheVariants.{BadValue}
 use Rattle.message.proofs.Values.{decoded_ok, decoded_err, partly_more, partly_bad, partly_all, piece_value, bytes_typed}
 use Rattle.message.proofs.take.read_values.Goals as goal

@@ -1,4 +1,4 @@
-use Rattle.std.proofs.Common.{◌≡◌, ◌*◌, ◌≤◌, length, sym, ap, ◌∙◌, arith}
+use Rattle.std.proofs.Common.{◌*◌, ◌≤◌, length, sym, ap, ◌∙◌, arith}
 use Rattle.challenger.specs.Sponge.{absorbed}
 use Rattle.ends.specs.Verifier.{cut, good}
 use Rattle.message.specs.Payloads.{stored_in}

@@ -1,4 +1,4 @@
-use Rattle.std.proofs.Common.{◌≡◌, ◌≤◌, Ok, Err, sym, refl, ap, ◌∙◌, arith}
+use Rattle.std.proofs.Common.{◌≤◌, Ok, Err, sym, ap, ◌∙◌, arith}
 use Rattle.codec.specs.Bound.{inner}
 use Rattle.driver.specs.Cores.{core_of}
 use Rattle.ends.proofs.Lifting.{challenged_on, challenged_stops}
