@@ -5,10 +5,8 @@ use Rattle.codec.specs.Coding.{Wire, Coding}
 use Rattle.domain_separator.specs.Domains.{Domain}
 use Rattle.ends.specs.Calls.{Call, scalars, bytes, challenge, begin, end, abort, wired}
 use Rattle.ends.specs.Format.{Given, Values}
-use Rattle.ends.specs.Prover as prover
 use Rattle.ends.specs.Prover.{Prover, Got, told}
 use Rattle.ends.specs.Questions.{turned_back}
-use Rattle.ends.specs.Verifier as verifier
 use Rattle.ends.specs.Verifier.{Verifier, Reply, asked}
 use Rattle.error.specs.declared.TranscriptError.{TranscriptError}
 

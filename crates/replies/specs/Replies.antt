@@ -4,7 +4,7 @@ use Rattle.error.specs.declared.TranscriptError.{TranscriptError}
 use Rattle.error.specs.declared.TranscriptError.TheVariants.{InvalidPrefix}
 use Rattle.keccak.specs.Sponge.{keccak_256}
 use Rattle.length_prefix.specs.Prefix.{width as width_of_lem, fits, encoded, decoded}
-use Rattle.script.specs.Language.{Query, width, encode_len, decode_len, keccak, items, encode, decode, bits, tag, Order, leaf, Says, silent, wrong, asks, read}
+use Rattle.script.specs.Language.{Query, width, encode_len, decode_len, keccak, items, encode, decode, bits, tag, leaf, Says, silent, wrong, asks, read}
 use Rattle.step.specs.declared.text.Text.{Text}
 use Rattle.step.specs.declared.type_tag.TypeTag.{TypeTag}
 use Rattle.replies.specs.Codings.{items_of, name_of, tag_of, wire_of, code_of, decoded_by}

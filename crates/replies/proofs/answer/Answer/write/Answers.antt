@@ -1,8 +1,6 @@
-use Rattle.std.proofs.Common.{◌++◌, vec_items, codes, decimal, ap}
-use Rattle.std.specs.List.{flat_map}
+use Rattle.std.proofs.Common.{◌++◌, vec_items, codes}
 use Rattle.step.specs.Texts.{content}
-use Rattle.replies.specs.Responses.{refusal}
-use Rattle.replies.specs.Texts.{hex_text, spaced, algebra_text}
+use Rattle.replies.specs.Texts.{algebra_text}
 use Rattle.replies.proofs.Appends.{after, after_as, written}
 use Rattle.replies.proofs.answer.Answer.write.Goals as goal
 
