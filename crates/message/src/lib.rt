@@ -4,5 +4,5 @@
 pub mod length;
 pub mod prefix;
 pub mod put;
-pub mod step;
+pub mod steps;
 pub mod take;

@@ -15,7 +15,7 @@ use codec::bound::TranscriptBound;
 use codec::codec::Codec;
 use domain_separator::separator::DomainSeparator;
 use error::TranscriptError;
-use message::step::codec_step;
+use message::steps::codec_step;
 use player::interface::Pattern;
 use player::player::PatternPlayer;
 use std::marker::PhantomData;
