@@ -1,3 +1,4 @@
+pub mod Deciding
 pub mod Texts
 pub mod Sames
 pub mod Copying

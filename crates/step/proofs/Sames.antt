@@ -68,6 +68,12 @@ alike_decides a b =
     (Decides-and _ _ (hierarchy_decides _ _) (Decides-and _ _ (kind_decides _ _) (Decides-and _ _ (text_decides _ _)
     (Decides-and _ _ (tag_decides _ _) (Decides-and _ _ (text_decides _ _) (length_decides _ _))))))
 
+-- a test that says what it tells in the form of cases is the test that decides it
+pub same_test : {X : Type 0} (x y : X) (r t : Bool) → Decides t (x ≡ y) → cond r (x ≡ y) (x ≡ y → ⊥) → r ≡ t
+same_test x y true t d h = sym (d.1 h)
+same_test x y false true d h = absurd (h (d.0 refl))
+same_test x y false false d h = refl
+
 pub same_decided : {X : Type 0} (x y : X) (r t : Bool) → Decides t (x ≡ y) → Decides r (x ≡ y) → r ≡ t
 same_decided x y true t d h = sym (d.1 (h.0 refl))
 same_decided x y false true d h = h.1 (d.0 refl)
