@@ -3,7 +3,7 @@ use Rattle.std.specs.Prelude.{ℕ, cond, List, [], ◌∷◌, ◌++◌, Ok, Err,
 use Rattle.error.specs.declared.TranscriptError.{TranscriptError}
 use Rattle.error.specs.declared.TranscriptError.TheVariants.{InvalidPrefix}
 use Rattle.keccak.specs.Sponge.{keccak_256}
-use Rattle.length_prefix.specs.Prefix.{width as width_of_lem, fits, encoded, decoded}
+use Rattle.length_prefix.specs.Prefix.{width as width_of, fits, encoded, decoded}
 use Rattle.script.specs.Language.{Query, width, encode_len, decode_len, keccak, items, encode, decode, bits, tag, leaf, Says, silent, wrong, asks, read}
 use Rattle.step.specs.declared.text.Text.{Text}
 use Rattle.step.specs.declared.type_tag.TypeTag.{TypeTag}
@@ -26,7 +26,7 @@ tagged t name = algebra t.modulus t.degree t.basis name
 
 -- the library's answer
 abbrev pub answered : Query → Response
-answered (width max) = number (width_of_lem max)
+answered (width max) = number (width_of max)
 answered (encode_len len w) =
     cond (fits len w) (bytes (encoded len w)) (refused_bytes InvalidPrefix (encoded len w))
 answered (decode_len bs w) = counted (decoded bs w)

@@ -2,7 +2,7 @@
 use Rattle.std.specs.Prelude.{ℕ, List, ◌++◌, codes, decimal}
 use Rattle.std.specs.List.{flat_map}
 use Rattle.error.specs.declared.TranscriptError.{TranscriptError}
-use Rattle.error.specs.Numbers.{number as number_of_lem}
+use Rattle.error.specs.Numbers.{number as number_of}
 use Rattle.step.specs.declared.text.Text.{Text}
 use Rattle.step.specs.Texts.{content}
 use Rattle.replies.specs.Texts.{hex_text, spaced, algebra_text}
@@ -20,7 +20,7 @@ pub data Response : Type 0 where
 
 -- a refusal goes by its number
 abbrev pub refusal : TranscriptError → List ℕ
-refusal e = codes "refused " ++ decimal (number_of_lem e)
+refusal e = codes "refused " ++ decimal (number_of e)
 
 -- the parts, with one space between
 abbrev pub text : Response → List ℕ
