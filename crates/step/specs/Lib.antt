@@ -4,3 +4,4 @@ pub mod TagCodes
 pub mod Tags
 pub mod Steps
 pub mod Comparing
+pub mod Laws

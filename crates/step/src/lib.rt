@@ -2,6 +2,9 @@
 #![tactic(auto)]
 
 pub mod interaction;
+mod laws;
 pub mod tag_code;
 pub mod text;
 pub mod type_tag;
+
+pub use laws::equalities_tell;

@@ -1,0 +1,19 @@
+-- What `==` tells of the values of a step: it answers that two are equal exactly where they are one.
+use Rattle.std.specs.Prelude.{◌≡◌, Bool, Decides}
+use Rattle.step.specs.contracts.interaction.HierarchyPartialEq.TheImpl as hierarchy
+use Rattle.step.specs.contracts.interaction.InteractionPartialEq.TheImpl as step
+use Rattle.step.specs.contracts.interaction.KindPartialEq.TheImpl as kind
+use Rattle.step.specs.contracts.interaction.LengthPartialEq.TheImpl as length
+use Rattle.step.specs.contracts.tag_code.TagCodePartialEq.TheImpl as code
+
+-- a test decides whether two values are one
+abbrev pub Tells : {X : Type 0} → (X → X → Bool) → Type 0
+Tells {X} eq = (a b : X) → Decides (eq a b) (a ≡ b)
+
+-- Of the tests that the derived `==` compute.
+pub record EqualitiesTell : Type 0 where
+  pub hierarchies : Tells hierarchy.ghosts.eq
+  pub kinds : Tells kind.ghosts.eq
+  pub lengths : Tells length.ghosts.eq
+  pub codes : Tells code.ghosts.eq
+  pub steps : Tells step.ghosts.eq
