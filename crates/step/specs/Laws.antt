@@ -3,7 +3,7 @@ use Rattle.std.specs.Prelude.{◌≡◌, Bool, Decides}
 use Rattle.step.specs.contracts.interaction.HierarchyPartialEq.TheImpl as hierarchy
 use Rattle.step.specs.contracts.interaction.InteractionPartialEq.TheImpl as step
 use Rattle.step.specs.contracts.interaction.KindPartialEq.TheImpl as kind
-use Rattle.step.specs.contracts.interaction.LengthPartialEq.TheImpl as length
+use Rattle.step.specs.contracts.interaction.LengthPartialEq.TheImpl as length_form
 use Rattle.step.specs.contracts.tag_code.TagCodePartialEq.TheImpl as code
 
 -- a test decides whether two values are one
@@ -14,6 +14,6 @@ Tells {X} eq = (a b : X) → Decides (eq a b) (a ≡ b)
 pub record EqualitiesTell : Type 0 where
   pub hierarchies : Tells hierarchy.ghosts.eq
   pub kinds : Tells kind.ghosts.eq
-  pub lengths : Tells length.ghosts.eq
+  pub lengths : Tells length_form.ghosts.eq
   pub codes : Tells code.ghosts.eq
   pub steps : Tells step.ghosts.eq
