@@ -1,36 +1,17 @@
 // The challenger for bytes.
-ghost use Rattle.std.specs.Prelude.{◌≡◌, ℕ, List, replicate};
+ghost use Rattle.std.specs.Prelude.{refl};
 ghost use Rattle.chains.specs.Chains.{byte_chain};
 
-use crate::chain::{BYTE, DRAW, link};
-use challenger::can_observe::CanObserve;
+use crate::chain::{BYTE, Chain, ChainItem, link};
 
-#[derive(Clone, Copy)]
-pub struct ByteChain {
-    pub state: [u8; 32],
-}
+pub type ByteChain = Chain<u8>;
 
-impl ByteChain {
-    pub fn new() -> ByteChain
-        ensures { result.state ≡ replicate 32 0 }
-    {
-        ByteChain { state: [0; 32] }
-    }
-}
-
-impl CanObserve<u8> for ByteChain {
-    ghost State = { List ℕ };
-
-    ghost means = { λ c. c.state };
-
+impl ChainItem for u8 {
     ghost sponge = { byte_chain };
 
-    fn observe(&mut self, item: u8) {
-        self.state = link(&self.state, BYTE, &[item]);
-    }
+    ghost draws = { λ s. (refl, refl) };
 
-    fn draw(&mut self) -> u8 {
-        self.state = link(&self.state, DRAW, &[]);
-        self.state[0]
+    fn link(self, state: &[u8; 32]) -> [u8; 32] {
+        link(state, BYTE, &[self])
     }
 }

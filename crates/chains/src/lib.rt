@@ -2,5 +2,5 @@
 #![tactic(auto)]
 
 pub mod byte_chain;
-mod chain;
+pub mod chain;
 pub mod word_chain;

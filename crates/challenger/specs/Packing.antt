@@ -19,10 +19,10 @@ length_packed k read bs = length-map-range_with_len (λ i. read (group k bs i)) 
 pub packed_at : (k : ℕ) (read : List ℕ → ℕ) (bs : List ℕ) (i d : ℕ) → i < groups k (length bs) → slice_index_or (packed k read bs) i d ≡ read (group k bs i)
 packed_at k read bs i d h = get_or-map-range_with_len (λ j. read (group k bs j)) 0 (groups k (length bs)) i i d h (omega arith)
 
-length_group : (k : ℕ) (bs : List ℕ) (i : ℕ) → length (group k bs i) ≡ k
+pub length_group : (k : ℕ) (bs : List ℕ) (i : ℕ) → length (group k bs i) ≡ k
 length_group k bs i = length-map-range_with_len (λ j. slice_index bs (k * i + j)) 0 k
 
-group_at : (k : ℕ) (bs : List ℕ) (i j : ℕ) → j < k → slice_index (group k bs i) j ≡ slice_index bs (k * i + j)
+pub group_at : (k : ℕ) (bs : List ℕ) (i j : ℕ) → j < k → slice_index (group k bs i) j ≡ slice_index bs (k * i + j)
 group_at k bs i j h = get_or-map-range_with_len (λ p. slice_index bs (k * i + p)) 0 k j j 0 h (omega arith)
 
 byte_at : (bs : List ℕ) (i : ℕ) → Bytes bs → slice_index bs i < 256

@@ -1,4 +1,4 @@
-// How a unit takes in a field value, by the value's wire bytes.
+// How a unit takes in a field value, by the value's wire bytes: it may pack them otherwise than a byte string.
 ghost use Rattle.std.specs.Prelude.{◌≡◌, ℕ, List};
 ghost use Rattle.challenger.specs.Sponge.{absorbed};
 ghost use Rattle.challenger.specs.Unitary.{Unitary};

@@ -1,5 +1,5 @@
 // The unit for a sponge that takes 32-bit words: three bytes of a string to a word.
-ghost use Rattle.std.specs.Prelude.{◌≡◌, ◌*◌, ◌<◌, length, slice_index};
+ghost use Rattle.std.specs.Prelude.{◌≡◌, ◌≤◌, length, slice_index};
 ghost use Rattle.challenger.specs.Words.{group, words, quads};
 ghost use Rattle.digits.specs.Digits.{number, number_le};
 ghost use Rattle.challenger.specs.Packing.{words_unitary, quads_unitary};
@@ -11,34 +11,33 @@ use crate::unit::Unit;
 #[derive(Clone, Copy)]
 pub struct WordUnit {}
 
-// The byte at `i`, and 0 past the end.
-fn byte_at(bytes: &[u8], i: usize) -> u8
-    ensures { result ≡ slice_index bytes.now i }
+// At most four bytes, completed by zero bytes.
+fn padded(bytes: &[u8]) -> [u8; 4]
+    requires { length bytes.now ≤ 4 }
+    ensures { result ≡ group 4 bytes.now 0 }
 {
-    if i < bytes.len() { bytes[i] } else { 0 }
+    let mut four = [0; 4];
+    four[0..bytes.len()].copy_from_slice(bytes);
+    four
 }
 
-// Word `i` of a byte string.
-fn word_at(bytes: &[u8], i: usize) -> u32
-    requires { 3 * i < length bytes.now }
-    ensures { result ≡ number (group 3 bytes.now i) }
+// Two readers and two loops, below: one of both would take the reader as a closure, whose contract is longer than the loop.
+
+// The word of at most three bytes of a string.
+fn word_of(bytes: &[u8]) -> u32
+    requires { length bytes.now ≤ 3 }
+    ensures { result ≡ number (group 3 bytes.now 0) }
 {
-    let a = byte_at(bytes, 3 * i);
-    let b = byte_at(bytes, 3 * i + 1);
-    let c = byte_at(bytes, 3 * i + 2);
+    let [a, b, c, _] = padded(bytes);
     u32::from_be_bytes([0, a, b, c])
 }
 
-// Word `i` of a field value's wire bytes.
-fn quad_at(wire: &[u8], i: usize) -> u32
-    requires { 4 * i < length wire.now }
-    ensures { result ≡ number_le (group 4 wire.now i) }
+// The word of at most four wire bytes of a field value.
+fn quad_of(wire: &[u8]) -> u32
+    requires { length wire.now ≤ 4 }
+    ensures { result ≡ number_le (group 4 wire.now 0) }
 {
-    let a = byte_at(wire, 4 * i);
-    let b = byte_at(wire, 4 * i + 1);
-    let c = byte_at(wire, 4 * i + 2);
-    let d = byte_at(wire, 4 * i + 3);
-    u32::from_le_bytes([a, b, c, d])
+    u32::from_le_bytes(padded(wire))
 }
 
 impl WordUnit {
@@ -53,10 +52,10 @@ impl WordUnit {
     pub fn word(bytes: &[u8], i: usize) -> u32
         ensures { result ≡ slice_index (words bytes.now) i }
     {
-        if i < WordUnit::word_count(bytes) {
-            word_at(bytes, i)
-        } else {
-            0
+        // By its place: `nth` of the chunks would walk over all before it.
+        match bytes.get(i.saturating_mul(3)..) {
+            Some(rest) => word_of(&rest[0..rest.len().min(3)]),
+            None => 0,
         }
     }
 }
@@ -69,8 +68,8 @@ impl Unit for WordUnit {
     ghost unitary = { words_unitary };
 
     fn observe_bytes<C: CanObserve<u32>>(challenger: &mut C, bytes: &[u8]) {
-        for i in 0..WordUnit::word_count(bytes) {
-            challenger.observe(word_at(bytes, i));
+        for group in bytes.chunks(3) {
+            challenger.observe(word_of(group));
         }
     }
 }
@@ -81,8 +80,8 @@ impl ScalarUnit for WordUnit {
     ghost unitary = { quads_unitary };
 
     fn observe_scalar<C: CanObserve<u32>>(challenger: &mut C, wire: &[u8]) {
-        for i in 0..wire.len().div_ceil(4) {
-            challenger.observe(quad_at(wire, i));
+        for group in wire.chunks(4) {
+            challenger.observe(quad_of(group));
         }
     }
 }

@@ -35,7 +35,6 @@ impl<T> TranscriptBound<T> {
     pub fn into_inner(self) -> T
         ensures { result ≡ inner self }
     {
-        let TranscriptBound { value } = self;
-        value
+        self.value
     }
 }

@@ -44,12 +44,13 @@ pub trait Codec<U: Unit, T> {
         ensures value { result ≡ uncoded (coding.wire.sampled (drawn C.CanObserve.sponge coding.wire.draws (C.CanObserve.means challenger.old))) }
         ensures after { C.CanObserve.means challenger.new ≡ turned C.CanObserve.sponge coding.wire.draws (C.CanObserve.means challenger.old) };
 
-    // Writes the value after the filled part of `out`, and answers how far that is filled then.
+    // Writes the value after the filled part of `out`, and answers how far that is filled then. The buffer is lent at each
+    // call, so that its filled part comes beside it.
     fn encode(value: &T, out: &mut [u8], filled: usize) -> Result<usize, TranscriptError>
         ensures value { result ≡ filled_to out.old filled coding.wire.wide }
         ensures bytes { out.new ≡ filled_with out.old filled (code value.now) };
 
-    // The value of exactly these bytes, or the codec's fault.
+    // The value of exactly these bytes, or the codec's fault: a number, since each codec says for itself what its faults are.
     fn decode(bytes: &[u8]) -> Result<T, u8>
         ensures { result ≡ decoded coding.wire uncoded bytes.now };
 

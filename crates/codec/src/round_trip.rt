@@ -14,8 +14,5 @@ pub fn reread<U: Unit, T: Drop, K: Codec<U, T>>(
     ensures { MatchResult result (λ v. (K.Codec.coding.wire.wide ≤ length out.old) × (K.Codec.stands v ≡ K.Codec.stands value.now)) (λ e. (length out.old < K.Codec.coding.wire.wide) × (e ≡ ShortBuffer)) }
 {
     let end = K::encode(value, out, 0)?;
-    match K::decode(&out[0..end]) {
-        Ok(again) => Ok(again),
-        Err(_) => unreachable(),
-    }
+    Ok(K::decode(&out[0..end]).unwrap())
 }

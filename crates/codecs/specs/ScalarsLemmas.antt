@@ -10,7 +10,7 @@ use Rattle.step.specs.declared.text.Text.{Text}
 use Rattle.codecs.specs.Scalars.{canonical, remainder_bytes, scalar_wire, scalar}
 
 module _ (wide m : ℕ) (pos : 0 < m) (fits : m ≤ 256 ^ wide) where
-  remainder_read : (n : ℕ) → number_le (remainder_bytes wide m n) ≡ n % m
+  pub remainder_read : (n : ℕ) → number_le (remainder_bytes wide m n) ≡ n % m
   remainder_read n = little.read wide (n % m) (lt_of_lt_of_le (mod-lt n pos) fits)
 
   remainder_canonical : (n : ℕ) → canonical wide m (remainder_bytes wide m n) ≡ true

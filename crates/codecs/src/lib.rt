@@ -2,8 +2,10 @@
 #![tactic(auto)]
 
 pub mod baby_bear;
+pub mod field_codec;
 mod fields;
 pub mod goldilocks;
+pub mod sample_size;
 mod scalar;
 
-pub use fields::{BabyBear, Goldilocks};
+pub use fields::{BabyBear, Goldilocks, PrimeField};

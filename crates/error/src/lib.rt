@@ -4,9 +4,13 @@
 ghost use Rattle.std.specs.Prelude.{◌≡◌};
 ghost use Rattle.error.specs.Numbers.{number as number_of};
 
+mod laws;
+
+pub use laws::equality_tells;
+
 // In the order of the numbers, which is the order in which the questions are put.
 // Positions are those of steps in a pattern, the opener's first.
-#[derive(Clone, Copy, Debug)]
+#[derive(Clone, Copy, Debug, PartialEq, Eq)]
 pub enum TranscriptError {
     // A text is too long or has a byte outside its range, or a row's tag is unknown or not clean.
     InvalidField,
@@ -56,7 +60,7 @@ pub enum TranscriptError {
 }
 
 impl TranscriptError {
-    // The number that a refusal is known by outside.
+    // The number that a refusal is known by outside. A case that carries values has no cast to one, so each number stands here.
     pub fn number(&self) -> u8
         ensures { result ≡ number_of self.now }
     {

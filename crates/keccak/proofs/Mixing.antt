@@ -1,11 +1,12 @@
 -- A block added into the state word by word.
 -- Assumes nothing.
-use Rattle.std.proofs.Common.{◌≡◌, ℕ, ◌+◌, ◌*◌, ◌<◌, ◌≤◌, List, length, get_or, set, sym, ap, ◌∙◌, ap₂, ⊎_elim, arith}
+use Rattle.std.proofs.Common.{◌≡◌, ℕ, ◌+◌, ◌*◌, ◌<◌, ◌≤◌, List, length, get_or, take, drop, set, sym, ap, ◌∙◌, ap₂, ⊎_elim, arith}
 use lib.Bits.{bit_xor, xor_zero_r}
 use Rattle.std.proofs.lemmas.List.{get_or_past, get_or-set_other, length-set}
 use Rattle.std.proofs.lemmas.List.Edits.{fill_by_more}
 use Rattle.std.proofs.lemmas.List.FromFn.{fill_by_all}
 use Rattle.std.proofs.lemmas.Bool.{cases_lt}
+use Rattle.keccak_f.proofs.Chunks.{in_chunk}
 use Rattle.keccak.specs.Sponge.{word, mixed}
 
 word_past : (bs : List ℕ) (k : ℕ) → length bs ≤ 8 * k → word bs k ≡ 0
@@ -20,6 +21,21 @@ word_past bs k h =
       get_or_past bs (8 * k + 5) 0 (omega arith),
       get_or_past bs (8 * k + 6) 0 (omega arith),
       get_or_past bs (8 * k + 7) 0 (omega arith),
+    )
+
+-- the word of a chunk of 8 bytes
+pub word_of_chunk : (bs chunk : List ℕ) (i : ℕ) → chunk ≡ take 8 (drop (i * 8) bs) → word chunk 0 ≡ word bs i
+word_of_chunk bs chunk i e =
+    omega (
+      arith,
+      in_chunk 8 i 0 (8 * i) bs chunk e (omega arith) (omega arith),
+      in_chunk 8 i 1 (8 * i + 1) bs chunk e (omega arith) (omega arith),
+      in_chunk 8 i 2 (8 * i + 2) bs chunk e (omega arith) (omega arith),
+      in_chunk 8 i 3 (8 * i + 3) bs chunk e (omega arith) (omega arith),
+      in_chunk 8 i 4 (8 * i + 4) bs chunk e (omega arith) (omega arith),
+      in_chunk 8 i 5 (8 * i + 5) bs chunk e (omega arith) (omega arith),
+      in_chunk 8 i 6 (8 * i + 6) bs chunk e (omega arith) (omega arith),
+      in_chunk 8 i 7 (8 * i + 7) bs chunk e (omega arith) (omega arith),
     )
 
 -- the first i words are added in

@@ -3,6 +3,7 @@ ghost use Rattle.std.specs.Prelude.{◌<◌};
 
 mod parts;
 
+// Copied as a value, which an `ArrayVec` in place of the block and its length could not be.
 #[derive(Clone, Copy)]
 pub struct Keccak256 {
     state: [u64; 25],

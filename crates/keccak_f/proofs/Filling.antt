@@ -1,6 +1,6 @@
 -- A loop that writes f x y at lane (x, y), for each lane in turn.
 -- Assumes nothing.
-use Rattle.std.proofs.Common.{◌≡◌, ℕ, ◌+◌, ◌*◌, ◌/◌, ◌%◌, ◌<◌, ◌≤◌, List, length, get_or, set, ap, ◌∙◌, ap₂, not-suc-le-zero, arith}
+use Rattle.std.proofs.Common.{◌≡◌, ℕ, ◌+◌, ◌*◌, ◌/◌, ◌%◌, ◌<◌, ◌≤◌, List, length, get_or, set, ap, ◌∙◌, ap₂, arith}
 use Rattle.std.proofs.lemmas.List.{length-set}
 use Rattle.std.proofs.lemmas.List.Edits.{fill_by_more}
 use Rattle.std.proofs.lemmas.List.FromFn.{fill_by_all}
@@ -9,12 +9,6 @@ use Rattle.keccak_f.specs.Permutation.{grid}
 pub record Filling (f : ℕ → ℕ → ℕ) (xs : List ℕ) (i : ℕ) : Type 0 where
   pub long : length xs ≡ 25
   pub done : (k : ℕ) → k < i → get_or xs k 0 ≡ f (k % 5) (k / 5)
-
-pub filling_none : (f : ℕ → ℕ → ℕ) (xs : List ℕ) → length xs ≡ 25 → Filling f xs (5 * 0)
-filling_none f xs n = record { long = n; done = λ k h. absurd (not-suc-le-zero h) }
-
-pub filling_at : {f : ℕ → ℕ → ℕ} {xs : List ℕ} {i : ℕ} → Filling f xs i → (j : ℕ) → i ≡ j → Filling f xs j
-filling_at m j e = record { long = m.long; done = λ k h. m.done k (omega arith) }
 
 pub filling_more : (f : ℕ → ℕ → ℕ) (xs : List ℕ) (x y v : ℕ) → x < 5 → y < 5 → v ≡ f x y → Filling f xs (x + 5 * y) → Filling f (set xs (x + 5 * y) v) (x + 1 + 5 * y)
 filling_more f xs x y v hx hy e m =

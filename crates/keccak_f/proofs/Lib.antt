@@ -3,3 +3,5 @@ pub mod Table
 pub mod Rounds
 pub mod Filling
 pub mod Bitwise
+pub mod Chunks
+pub mod Made

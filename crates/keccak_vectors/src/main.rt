@@ -1,7 +1,6 @@
 // Hashes the messages of standard input, and says of each digest whether it is the expected one.
 #![tactic(auto)]
 
-mod hex;
 mod message;
 mod parts;
 mod tally;
@@ -13,7 +12,7 @@ use tally::Tally;
 
 fn main(rt: HostRuntime) -> io::Result<()> {
     let heap = rt.alloc();
-    let mut tally = Tally::new();
+    let mut tally = Tally::default();
     for line in BufReader::new(heap, rt.stdin())?.lines(heap) {
         let answer = vector::run(heap, line?.as_str(), &mut tally)?;
         println!(rt; "{answer}")?;

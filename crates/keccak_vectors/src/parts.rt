@@ -11,9 +11,8 @@ pub fn keccak256_in_parts(message: &[u8]) -> [u8; 32]
     let mut hasher = Keccak256::new();
     let mut rest = message;
     let mut size: usize = 0;
-    while rest.len() > 0 {
-        hasher.absorb_byte(rest[0]);
-        let tail = &rest[1..];
+    while let [byte, tail @ ..] = rest {
+        hasher.absorb_byte(*byte);
         let (part, others) = tail.split_at(size.min(tail.len()));
         hasher.absorb(part);
         rest = others;

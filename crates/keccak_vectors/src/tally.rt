@@ -2,7 +2,7 @@
 use std::fmt;
 use std::fmt::{Display, Formatter, Write};
 
-#[derive(Drop)]
+#[derive(Default, Drop)]
 pub struct Tally {
     agree: u64,
     differ: u64,
@@ -10,14 +10,6 @@ pub struct Tally {
 }
 
 impl Tally {
-    pub fn new() -> Self {
-        Tally {
-            agree: 0,
-            differ: 0,
-            in_parts: 0,
-        }
-    }
-
     pub fn count(&mut self, agrees: bool, in_parts: bool) {
         if agrees {
             self.agree = self.agree.saturating_add(1);

@@ -36,6 +36,7 @@ pub fn bound_byte_width(max: usize) -> usize
 }
 
 // `len` in the first `width` of eight bytes, zeros after it; and whether it is refused, which leaves eight zeros.
+// The flag stands beside the bytes, since a refusal has its bytes too.
 pub fn encode_len_be(len: usize, width: usize) -> ([u8; 8], bool)
     ensures bytes { result.0 ≡ encoded len width }
     ensures refused { result.1 ≡ not (fits len width) }
@@ -74,27 +75,26 @@ pub fn decode_len_be(buf: &[u8], width: usize) -> Result<usize, TranscriptError>
 mod tests {
     use super::*;
 
-    const MAXIMA: [usize; 12] = [
-        0,
-        1,
-        255,
-        256,
-        65535,
-        65536,
-        0x1000000,
-        0x100000000,
-        0x100000000000000,
-        0xffffffffffffffff,
-        300,
-        0xffffff,
+    // Maxima, each with its width.
+    const WIDTHS: [(usize, usize); 12] = [
+        (0, 0),
+        (1, 1),
+        (255, 1),
+        (256, 2),
+        (65535, 2),
+        (65536, 3),
+        (0x1000000, 4),
+        (0x100000000, 5),
+        (0x100000000000000, 8),
+        (0xffffffffffffffff, 8),
+        (300, 2),
+        (0xffffff, 3),
     ];
-
-    const WIDTHS: [usize; 12] = [0, 1, 1, 2, 2, 3, 4, 5, 8, 8, 2, 3];
 
     #[test]
     fn widths_at_the_edges(rt: HostRuntime) {
-        for (max, width) in MAXIMA.iter().zip(WIDTHS.iter()) {
-            assert_eq!(rt; bound_byte_width(*max), *width);
+        for (max, width) in WIDTHS {
+            assert_eq!(rt; bound_byte_width(max), width);
         }
     }
 

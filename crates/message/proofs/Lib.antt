@@ -1,4 +1,3 @@
-pub mod Lengths
 pub mod Values
 pub mod Taking
 pub mod Putting

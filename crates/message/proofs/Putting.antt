@@ -1,7 +1,6 @@
 -- Writing after the filled part of a buffer: with room and without, and one part after another.
-use Rattle.std.proofs.Common.{◌≡◌, ℕ, ◌+◌, ◌-◌, ◌<◌, ◌≤◌, List, [], ◌++◌, length, take, drop, Ok, Err, sym, ap, ◌∙◌, ap₂, arith, le-leb}
+use Rattle.std.proofs.Common.{◌≡◌, ℕ, ◌+◌, ◌<◌, ◌≤◌, List, [], ◌++◌, length, take, drop, Ok, Err, sym, ap, ◌∙◌, ap₂, arith, le-leb}
 use borrow.Author.Tests.{lt-leb}
-use borrow.Rule.Slice.PartMut.{put_mid}
 use Rattle.error.specs.declared.TranscriptError.TheVariants.{ShortBuffer}
 use Rattle.message.specs.Payloads.{wrote, putting}
 use Rattle.std.proofs.lemmas.List.{append_assoc, length-append, length-take-le, take_at, drop_at, drop-drop}
@@ -12,12 +11,6 @@ module _ {S : Type 0} (bs out : List ℕ) (filled : ℕ) (s s' : S) where
 
   pub full : length out < filled + length bs → putting bs out filled s s' ≡ record { answer = Err ShortBuffer; buffer = out; state = s }
   full h = let r = lt-leb (filled + length bs) (length out) h in rw r
-
--- a part of a slice, overwritten
-pub overwritten : (out : List ℕ) (at : ℕ) (bs part : List ℕ) → part ≡ bs → put_mid at ((at + length bs) - at) out part ≡ wrote out at bs
-overwritten out at bs part is =
-    let k : (at + length bs) - at ≡ length bs = omega arith in
-    ap₂ (λ x y. take at out ++ (x ++ y)) is (ap (λ n. drop n (drop at out)) k ∙ drop-drop (length bs) at out)
 
 pub wrote_none : (out : List ℕ) (at : ℕ) → out ≡ wrote out at []
 wrote_none out at = sym (Rattle.std.proofs.lemmas.List.take-append-drop at out) ∙ ap (λ n. take at out ++ drop n out) (omega arith)

@@ -1,9 +1,10 @@
 -- Values written one after another: after i of them.
 use Rattle.std.proofs.Common.{◌≡◌, ℕ, suc, ◌+◌, ◌*◌, ◌<◌, ◌≤◌, true, List, [], ◌∷◌, ◌++◌, map, length, get_or, take, Ok, sym, refl, ap, ◌∙◌, ap₂, mul-le-mul_right, suc-mul, add-one, arith, le-leb}
+use Rattle.challenger.specs.Absorbing.{absorbed_append}
 use Rattle.challenger.specs.Sponge.{Sponge, absorbed}
 use Rattle.codec.specs.Coding.{Coding, room, filled_with, filled_to}
 use Rattle.message.proofs.Putting.{wrote_none, wrote_more, length_wrote}
-use Rattle.message.proofs.Values.{absorbed_append, joined_push}
+use Rattle.message.proofs.Values.{joined_push}
 use Rattle.message.specs.Payloads.{wrote}
 use Rattle.std.proofs.lemmas.List.{take_more, length-append}
 use Rattle.std.specs.List.{flat_map}

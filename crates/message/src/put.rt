@@ -13,10 +13,7 @@ use error::TranscriptError;
 fn has_room(len: usize, filled: usize, prefix: usize, count: usize, wide: usize) -> bool
     ensures { result ≡ nat_le (filled + (prefix + count * wide)) len }
 {
-    if filled > len || prefix > len - filled {
-        return false;
-    }
-    count as u128 * wide as u128 <= (len - filled - prefix) as u128
+    filled as u128 + (prefix as u128 + count as u128 * wide as u128) <= len as u128
 }
 
 // Writes bytes where there is room for them.
@@ -28,6 +25,7 @@ fn write(out: &mut [u8], at: usize, bytes: &[u8])
 }
 
 // A prefix and bytes after the filled part of `out`; it answers how far that is filled then. The two pass through the unit apart.
+// What is lent at each call comes side by side, here and below: a struct of it would live for one call.
 pub fn put_bytes<U: Unit, C: CanObserve<U::Item>>(
     challenger: &mut C,
     prefix: &[u8],
@@ -35,9 +33,7 @@ pub fn put_bytes<U: Unit, C: CanObserve<U::Item>>(
     out: &mut [u8],
     filled: usize,
 ) -> Result<usize, TranscriptError>
-    ensures answer { result ≡ (putting (prefix.now ++ bytes.now) out.old filled (C.CanObserve.means challenger.old) (absorbed C.CanObserve.sponge (U.Unit.items bytes.now) (absorbed C.CanObserve.sponge (U.Unit.items prefix.now) (C.CanObserve.means challenger.old)))).answer }
-    ensures buffer { out.new ≡ (putting (prefix.now ++ bytes.now) out.old filled (C.CanObserve.means challenger.old) (absorbed C.CanObserve.sponge (U.Unit.items bytes.now) (absorbed C.CanObserve.sponge (U.Unit.items prefix.now) (C.CanObserve.means challenger.old)))).buffer }
-    ensures state { C.CanObserve.means challenger.new ≡ (putting (prefix.now ++ bytes.now) out.old filled (C.CanObserve.means challenger.old) (absorbed C.CanObserve.sponge (U.Unit.items bytes.now) (absorbed C.CanObserve.sponge (U.Unit.items prefix.now) (C.CanObserve.means challenger.old)))).state }
+    ensures { record { answer = result; buffer = out.new; state = C.CanObserve.means challenger.new } ≡ putting (prefix.now ++ bytes.now) out.old filled (C.CanObserve.means challenger.old) (absorbed C.CanObserve.sponge (U.Unit.items bytes.now) (absorbed C.CanObserve.sponge (U.Unit.items prefix.now) (C.CanObserve.means challenger.old))) }
 {
     if !has_room(out.len(), filled, prefix.len(), bytes.len(), 1) {
         return Err(TranscriptError::ShortBuffer);
@@ -63,10 +59,7 @@ fn write_values<U: Unit, T, K: Codec<U, T>, C: CanObserve<U::Item>>(
     let mut at = start;
     for value in values {
         K::observe(challenger, value);
-        match K::encode(value, out, at) {
-            Ok(filled) => at = filled,
-            Err(_) => unreachable(),
-        }
+        at = K::encode(value, out, at).unwrap();
     }
 }
 
@@ -78,9 +71,7 @@ pub fn put_values<U: Unit, T, K: Codec<U, T>, C: CanObserve<U::Item>>(
     out: &mut [u8],
     filled: usize,
 ) -> Result<usize, TranscriptError>
-    ensures answer { result ≡ (putting (prefix.now ++ flat_map K.Codec.code values.now) out.old filled (C.CanObserve.means challenger.old) (taken_in C.CanObserve.sponge U.Unit.items K.Codec.coding prefix.now (map K.Codec.code values.now) (C.CanObserve.means challenger.old))).answer }
-    ensures buffer { out.new ≡ (putting (prefix.now ++ flat_map K.Codec.code values.now) out.old filled (C.CanObserve.means challenger.old) (taken_in C.CanObserve.sponge U.Unit.items K.Codec.coding prefix.now (map K.Codec.code values.now) (C.CanObserve.means challenger.old))).buffer }
-    ensures state { C.CanObserve.means challenger.new ≡ (putting (prefix.now ++ flat_map K.Codec.code values.now) out.old filled (C.CanObserve.means challenger.old) (taken_in C.CanObserve.sponge U.Unit.items K.Codec.coding prefix.now (map K.Codec.code values.now) (C.CanObserve.means challenger.old))).state }
+    ensures { record { answer = result; buffer = out.new; state = C.CanObserve.means challenger.new } ≡ putting (prefix.now ++ flat_map K.Codec.code values.now) out.old filled (C.CanObserve.means challenger.old) (taken_in C.CanObserve.sponge U.Unit.items K.Codec.coding prefix.now (map K.Codec.code values.now) (C.CanObserve.means challenger.old)) }
 {
     let wide = K::wire_len();
     if !has_room(out.len(), filled, prefix.len(), values.len(), wide) {

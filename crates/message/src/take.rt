@@ -19,21 +19,17 @@ fn read_values<U: Unit, T: Drop, K: Codec<U, T>, C: CanObserve<U::Item>>(
 ) -> Result<(), TranscriptError>
     requires long { count * K.Codec.coding.wire.wide ≤ length bytes.now }
     requires room { count ≤ length out.old }
-    ensures answer { result ≡ (if all_good K.Codec.coding.wire (cut count K.Codec.coding.wire.wide bytes.now) then Ok tt else Err (bad_value K.Codec.coding.wire (cut count K.Codec.coding.wire.wide bytes.now))) }
-    ensures stored { out.new ≡ stored_in K.Codec.uncoded (good K.Codec.coding.wire (cut count K.Codec.coding.wire.wide bytes.now)) out.old }
-    ensures state { C.CanObserve.means challenger.new ≡ absorbed C.CanObserve.sponge (flat_map K.Codec.coding.items (good K.Codec.coding.wire (cut count K.Codec.coding.wire.wide bytes.now))) (C.CanObserve.means challenger.old) }
+    ensures { let all = cut count K.Codec.coding.wire.wide bytes.now in let read = good K.Codec.coding.wire all in record { answer : result ≡ (if all_good K.Codec.coding.wire all then Ok tt else Err (bad_value K.Codec.coding.wire all)); stored : out.new ≡ stored_in K.Codec.uncoded read out.old; state : C.CanObserve.means challenger.new ≡ absorbed C.CanObserve.sponge (flat_map K.Codec.coding.items read) (C.CanObserve.means challenger.old) } }
 {
     let wide = K::wire_len();
-    let mut at = 0;
-    for index in 0..count {
-        match K::decode(&bytes[at..at + wide]) {
-            Ok(value) => {
-                K::observe(challenger, &value);
-                out[index] = value;
-            }
-            Err(fault) => return Err(TranscriptError::BadValue { index, fault }),
-        }
-        at += wide;
+    let mut rest = bytes;
+    // `out` may be longer than `count`.
+    for (index, place) in out[..count].iter_mut().enumerate() {
+        let (here, behind) = rest.split_at(wide);
+        let value = K::decode(here).map_err(|fault| TranscriptError::BadValue { index, fault })?;
+        K::observe(challenger, &value);
+        *place = value;
+        rest = behind;
     }
     Ok(())
 }
@@ -46,9 +42,7 @@ pub fn take_values<U: Unit, T: Drop, K: Codec<U, T>, C: CanObserve<U::Item>>(
     count: usize,
     out: &mut [T],
 ) -> Result<(), TranscriptError>
-    ensures answer { result ≡ (taking C.CanObserve.sponge U.Unit.items K.Codec.coding prefix.now bytes.now count (length out.old) (C.CanObserve.means challenger.old)).answer }
-    ensures stored { out.new ≡ stored_in K.Codec.uncoded (taking C.CanObserve.sponge U.Unit.items K.Codec.coding prefix.now bytes.now count (length out.old) (C.CanObserve.means challenger.old)).stored out.old }
-    ensures state { C.CanObserve.means challenger.new ≡ (taking C.CanObserve.sponge U.Unit.items K.Codec.coding prefix.now bytes.now count (length out.old) (C.CanObserve.means challenger.old)).left }
+    ensures { let taken = taking C.CanObserve.sponge U.Unit.items K.Codec.coding prefix.now bytes.now count (length out.old) (C.CanObserve.means challenger.old) in record { answer : result ≡ taken.answer; stored : out.new ≡ stored_in K.Codec.uncoded taken.stored out.old; state : C.CanObserve.means challenger.new ≡ taken.left } }
 {
     if count as u128 * K::wire_len() as u128 > bytes.len() as u128 {
         U::observe_bytes(challenger, prefix);

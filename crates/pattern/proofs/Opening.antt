@@ -1,5 +1,5 @@
 -- The openers of a sequence: one step more, how far they reach, and what closing it comes to.
-use Rattle.std.proofs.Common.{◌≡◌, ℕ, ◌+◌, ◌≤◌, Bool, true, false, cond, ltb, List, [], ◌∷◌, ◌++◌, length, is_ok, Ok, Err, Result, sym, refl, ap, ◌∙◌, subst, arith, length-append}
+use Rattle.std.proofs.Common.{◌≡◌, ℕ, ◌+◌, Bool, true, false, cond, ltb, List, [], ◌∷◌, ◌++◌, length, is_ok, Ok, Err, Result, sym, refl, ap, ◌∙◌, subst, arith, length-append}
 use Rattle.error.specs.declared.TranscriptError.{TranscriptError}
 use Rattle.error.specs.declared.TranscriptError.TheVariants.{MismatchedBeginEnd, InvalidKind, PatternFull}
 use Rattle.std.proofs.lemmas.List.{append_assoc, append-nil}
@@ -7,14 +7,11 @@ use Rattle.step.specs.declared.interaction.Hierarchy.{Hierarchy}
 use Rattle.step.specs.declared.interaction.Hierarchy.TheVariants.{Atomic, Begin, End}
 use Rattle.step.specs.declared.interaction.Interaction.{Interaction}
 use Rattle.step.specs.Steps.{admits, closes}
-use Rattle.pattern.specs.Patterns.{Low}
+use Rattle.pattern.specs.Patterns.{Within}
 use Rattle.pattern.specs.Rows.{then}
 use Rattle.pattern.specs.Walk.{Open, nested, closed, structure, placed, met, ended, walk, checked, runs, opens, openers, step_at}
-use Rattle.pattern.proofs.Stacks.{low_more}
+use Rattle.pattern.proofs.Stacks.{clash, within_rest, within_more, within_push}
 use Rattle.pattern.proofs.Walking.{walk_more, walk_none}
-
-clash : {A : Type 0} → ◌≡◌ {A = ℕ} 0 1 → A
-clash e = absurd (omega arith)
 
 then_assoc : {A B C : Type 0} (m : Result A TranscriptError) (f : A → Result B TranscriptError) (g : B → Result C TranscriptError) → then m (λ x. then (f x) g) ≡ then (then m f) g
 then_assoc (Ok x) f g = refl
@@ -65,13 +62,6 @@ checked_opens ss = walk_runs [] [] ss
 
 -- ---- openers lie before the end, and there are no more of them than steps
 
-pub record Within (n : ℕ) (bs : List ℕ) : Type 0 where
-  pub low : Low n bs
-  pub few : length bs ≤ n
-
-within_more : (n : ℕ) (bs : List ℕ) → Within n bs → Within (n + 1) bs
-within_more n bs w = record { low = low_more n (n + 1) bs (omega arith) w.low; few = omega (arith, w.few) }
-
 pub cond_ok : (v : Bool) (go o : List ℕ) (e : TranscriptError) → cond v (Ok go) (Err e) ≡ Ok o → go ≡ o
 cond_ok true go o e h = cc
 cond_ok false go o e h = clash cc
@@ -83,13 +73,11 @@ nested_ok before (b ∷ bs) s go o e = cond_ok (admits (step_at before b) s) go 
 closed_within : (before : List Interaction) (bs : List ℕ) (s : Interaction) (o : List ℕ) (n : ℕ) → Within n bs → closed before bs s ≡ Ok o → Within n o
 closed_within before [] s o n w e = clash cc
 closed_within before (b ∷ bs) s o n w e =
-    subst (Within n) (cond_ok (closes s (step_at before b)) bs o (MismatchedBeginEnd b (length before)) e) (record { low = w.low.1; few = omega (arith, w.few) })
+    subst (Within n) (cond_ok (closes s (step_at before b)) bs o (MismatchedBeginEnd b (length before)) e) (within_rest n (b ∷ bs) w)
 
 structure_within : (before : List Interaction) (bs : List ℕ) (s : Interaction) (h : Hierarchy) (o : List ℕ) → Within (length before) bs → structure before bs s h ≡ Ok o → Within (length before + 1) o
 structure_within before bs s Atomic o w e = subst (Within (length before + 1)) (nested_ok before bs s bs o e) (within_more (length before) bs w)
-structure_within before bs s Begin o w e =
-    subst (Within (length before + 1)) (nested_ok before bs s (length before ∷ bs) o e)
-    (record { low = (omega arith, low_more (length before) (length before + 1) bs (omega arith) w.low); few = omega (arith, w.few) })
+structure_within before bs s Begin o w e = subst (Within (length before + 1)) (nested_ok before bs s (length before ∷ bs) o e) (within_push (length before) bs w)
 structure_within before bs s End o w e = within_more (length before) o (closed_within before bs s o (length before) w e)
 
 pub placed_ok : (n : ℕ) (r : Open) (o : List ℕ) → placed n r ≡ Ok o → r ≡ Ok o

@@ -8,15 +8,14 @@ use Rattle.error.specs.declared.TranscriptError.{TranscriptError}
 use Rattle.error.specs.declared.TranscriptError.TheVariants.{MismatchedBeginEnd, InvalidKind}
 use Rattle.step.specs.Steps.{admits, closes}
 use Rattle.pattern.specs.Nests.{Allowed, Nests, empty, leaf, scope, closer}
+use Rattle.pattern.specs.Patterns.{Within}
 use Rattle.pattern.specs.Rows.{then}
 use Rattle.pattern.specs.Walk.{Open, nested, closed, structure, met, ended, checked, runs, opens, step_at}
 use Rattle.pattern.proofs.Agreeing.{admits_allowed, closes_closer}
 use Rattle.pattern.proofs.Complete.{stack, innermost, stack_kept, stack_push, length_push}
 use Rattle.pattern.proofs.Nesting.{met_free}
-use Rattle.pattern.proofs.Opening.{Within, runs_more, runs_none, checked_opens, cond_ok, nested_ok, placed_ok, met_within}
-
-clash : {A : Type 0} → ◌≡◌ {A = ℕ} 0 1 → A
-clash e = absurd (omega arith)
+use Rattle.pattern.proofs.Opening.{runs_more, runs_none, checked_opens, cond_ok, nested_ok, placed_ok, met_within}
+use Rattle.pattern.proofs.Stacks.{clash}
 
 -- ---- what may follow while scopes are open
 

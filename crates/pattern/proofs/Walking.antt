@@ -1,16 +1,14 @@
 -- The walk over a sequence: one candidate more, its end, and that the steps it gives pass it themselves.
-use Rattle.std.proofs.Common.{◌≡◌, ℕ, ◌+◌, ◌<◌, ◌≤◌, List, [], ◌∷◌, ◌++◌, length, get_or, take, drop, set, Some, None, Ok, Err, Result, sym, refl, ap, ◌∙◌, arith}
+use Rattle.std.proofs.Common.{◌≡◌, ℕ, ◌+◌, ◌<◌, ◌≤◌, List, [], ◌∷◌, ◌++◌, length, get_or, drop, Some, None, Ok, Err, Result, sym, refl, ap, ◌∙◌}
 use Rattle.error.specs.declared.TranscriptError.{TranscriptError}
 use Rattle.error.specs.declared.TranscriptError.TheVariants.{MissingEnd}
-use Rattle.std.proofs.lemmas.List.{drop_more, drop_all, take_more_set, append_assoc, append-nil}
+use Rattle.std.proofs.lemmas.List.{drop_more, drop_all, append_assoc, append-nil}
 use Rattle.step.specs.declared.interaction.Interaction.{Interaction}
-use Rattle.pattern.specs.Patterns.{Low}
+use Rattle.pattern.specs.Patterns.{Within}
 use Rattle.pattern.specs.Rows.{then}
-use Rattle.pattern.specs.Stack.{held, top}
+use Rattle.pattern.specs.Stack.{top}
 use Rattle.pattern.specs.Walk.{Open, met, ended, walk, validated, checked}
-
-clash : {A : Type 0} → ◌≡◌ {A = ℕ} 0 1 → A
-clash e = absurd (omega arith)
+use Rattle.pattern.proofs.Stacks.{clash}
 
 module _ {A : Type 0} (made : A → Result Interaction TranscriptError) where
   pub walk_more : (before : List Interaction) (bs : List ℕ) (x : A) (xs : List A) → walk made before bs (x ∷ xs) ≡ then (made x) (λ s. then (met before bs s) (λ o. walk made (before ++ s ∷ []) o xs))
@@ -23,43 +21,42 @@ module _ {A : Type 0} (made : A → Result Interaction TranscriptError) where
 
   -- where the loop stands: what is left comes to the same
   abbrev pub Sofar : List A → List Interaction → List ℕ → ℕ → Type 0
-  Sofar xs steps bs p = walk made (take p steps) bs (drop p xs) ≡ validated made xs
+  Sofar xs steps bs p = walk made steps bs (drop p xs) ≡ validated made xs
 
   module _ (xs : List A) (steps : List Interaction) (bs : List ℕ) (p : ℕ) (lt : p < length xs) (so : Sofar xs steps bs p) (x : A) (is : x ≡ get_or xs p x) where
-    here : validated made xs ≡ then (made x) (λ s. then (met (take p steps) bs s) (λ o. walk made (take p steps ++ s ∷ []) o (drop (p + 1) xs)))
+    here : validated made xs ≡ then (made x) (λ s. then (met steps bs s) (λ o. walk made (steps ++ s ∷ []) o (drop (p + 1) xs)))
     here =
-        sym so ∙ ap (walk made (take p steps) bs) (drop_more xs p x lt ∙ ap (λ y. y ∷ drop (p + 1) xs) (sym is)) ∙ walk_more (take p steps) bs x (drop (p + 1) xs)
+        sym so ∙ ap (walk made steps bs) (drop_more xs p x lt ∙ ap (λ y. y ∷ drop (p + 1) xs) (sym is)) ∙ walk_more steps bs x (drop (p + 1) xs)
 
     pub not_made : {e : TranscriptError} → Err e ≡ made x → validated made xs ≡ Err e
-    not_made e = here ∙ ap (λ m. then m (λ s. then (met (take p steps) bs s) (λ o. walk made (take p steps ++ s ∷ []) o (drop (p + 1) xs)))) (sym e)
+    not_made e = here ∙ ap (λ m. then m (λ s. then (met steps bs s) (λ o. walk made (steps ++ s ∷ []) o (drop (p + 1) xs)))) (sym e)
 
-    pub not_nested : {e : TranscriptError} (s : Interaction) → Ok s ≡ made x → Err e ≡ met (take p steps) bs s → validated made xs ≡ Err e
+    pub not_nested : {e : TranscriptError} (s : Interaction) → Ok s ≡ made x → Err e ≡ met steps bs s → validated made xs ≡ Err e
     not_nested s m e =
-        here ∙ ap (λ r. then r (λ s. then (met (take p steps) bs s) (λ o. walk made (take p steps ++ s ∷ []) o (drop (p + 1) xs)))) (sym m)
-        ∙ ap (λ r. then r (λ o. walk made (take p steps ++ s ∷ []) o (drop (p + 1) xs))) (sym e)
+        here ∙ ap (λ r. then r (λ s. then (met steps bs s) (λ o. walk made (steps ++ s ∷ []) o (drop (p + 1) xs)))) (sym m)
+        ∙ ap (λ r. then r (λ o. walk made (steps ++ s ∷ []) o (drop (p + 1) xs))) (sym e)
 
-    pub nested_more : (s : Interaction) (o : List ℕ) → Ok s ≡ made x → Ok o ≡ met (take p steps) bs s → p < length steps → Sofar xs (set steps p s) o (p + 1)
-    nested_more s o m e in' =
-        ap (λ b. walk made b o (drop (p + 1) xs)) (take_more_set steps p s in')
-        ∙ sym (here ∙ ap (λ r. then r (λ s. then (met (take p steps) bs s) (λ o. walk made (take p steps ++ s ∷ []) o (drop (p + 1) xs)))) (sym m)
-        ∙ ap (λ r. then r (λ o. walk made (take p steps ++ s ∷ []) o (drop (p + 1) xs))) (sym e))
+    pub nested_more : (s : Interaction) (o : List ℕ) → Ok s ≡ made x → Ok o ≡ met steps bs s → Sofar xs (steps ++ s ∷ []) o (p + 1)
+    nested_more s o m e =
+        sym (here ∙ ap (λ r. then r (λ s. then (met steps bs s) (λ o. walk made (steps ++ s ∷ []) o (drop (p + 1) xs)))) (sym m)
+        ∙ ap (λ r. then r (λ o. walk made (steps ++ s ∷ []) o (drop (p + 1) xs))) (sym e))
 
   module _ (xs : List A) (steps : List Interaction) (bs : List ℕ) (p : ℕ) (all : length xs ≤ p) (so : Sofar xs steps bs p) where
-    at_end : validated made xs ≡ ended (take p steps) bs
-    at_end = sym so ∙ ap (walk made (take p steps) bs) (drop_all p xs all) ∙ walk_none (take p steps) bs
+    at_end : validated made xs ≡ ended steps bs
+    at_end = sym so ∙ ap (walk made steps bs) (drop_all p xs all) ∙ walk_none steps bs
 
-    ended_some : (cs : List ℕ) (b : ℕ) → Some b ≡ top cs → ended (take p steps) cs ≡ Err (MissingEnd b)
+    ended_some : (cs : List ℕ) (b : ℕ) → Some b ≡ top cs → ended steps cs ≡ Err (MissingEnd b)
     ended_some [] b t = clash cc
     ended_some (c ∷ cs) b t = let e : c ≡ b = cc in ap (λ k. Err (MissingEnd k)) e
 
-    ended_none : (cs : List ℕ) → None ≡ top cs → ended (take p steps) cs ≡ Ok (take p steps)
+    ended_none : (cs : List ℕ) → None ≡ top cs → ended steps cs ≡ Ok steps
     ended_none [] t = refl
     ended_none (c ∷ cs) t = clash cc
 
     pub open_at_end : (b : ℕ) → Some b ≡ top bs → validated made xs ≡ Err (MissingEnd b)
     open_at_end b t = at_end ∙ ended_some bs b t
 
-    pub closed_at_end : None ≡ top bs → validated made xs ≡ Ok (take p steps)
+    pub closed_at_end : None ≡ top bs → validated made xs ≡ Ok steps
     closed_at_end t = at_end ∙ ended_none bs t
 
 -- the steps that come out pass as a sequence of their own
@@ -103,9 +100,7 @@ module _ {A : Type 0} (made : A → Result Interaction TranscriptError) (all : L
       ap (λ l. walk (λ s. Ok s) [] [] l) out.joined ∙ out.pass
 
 -- where the validator's loop stands
-pub record Going {A : Type 0} (made : A → Result Interaction TranscriptError) (xs : List A) (steps : List Interaction) (at : List ℕ) (depth p : ℕ) : Type 0 where
-  pub long : length steps ≡ 64
-  pub few : p ≤ 64
-  pub low : Low p (held at depth)
-  pub deep : depth ≤ p
-  pub so : Sofar made xs steps (held at depth) p
+pub record Going {A : Type 0} (made : A → Result Interaction TranscriptError) (xs : List A) (steps : List Interaction) (bs : List ℕ) (p : ℕ) : Type 0 where
+  pub long : length steps ≡ p
+  pub within : Within p bs
+  pub so : Sofar made xs steps bs p

@@ -1,4 +1,5 @@
 pub mod Stack
+pub mod Listed
 pub mod Rows
 pub mod Walk
 pub mod Patterns

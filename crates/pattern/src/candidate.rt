@@ -1,4 +1,4 @@
-// What the validator can be given for a step.
+// What the validator can be given for a step. No `TryInto<Interaction>`: for a step itself the library's `TryFrom` has the error `Infallible`.
 ghost use Rattle.std.specs.Prelude.{◌≡◌, Ok, Result};
 ghost use Rattle.error.specs.declared.TranscriptError.{TranscriptError};
 ghost use Rattle.step.specs.declared.interaction.Interaction.{Interaction};

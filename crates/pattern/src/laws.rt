@@ -8,6 +8,7 @@ use error::TranscriptError;
 use step::interaction::Interaction;
 
 // The steps of every pattern nest; how many they are.
+#[tactic(auto, using(crate::proofs::Sound::sound))]
 pub fn patterns_nest(pattern: &InteractionPattern) -> usize
     ensures nest { Nests None (steps_of pattern.now) }
     ensures count { result ≡ length (steps_of pattern.now) }
@@ -17,6 +18,7 @@ pub fn patterns_nest(pattern: &InteractionPattern) -> usize
 }
 
 // Steps make a pattern, of just these steps, exactly when they nest and are at most 64.
+#[tactic(auto, using(crate::proofs::Sound::sound, crate::proofs::Sound::at_most, crate::proofs::Complete::complete))]
 pub fn nested_steps_make_a_pattern(
     steps: &[Interaction],
 ) -> Result<InteractionPattern, TranscriptError>

@@ -7,3 +7,4 @@ pub mod laws;
 pub mod row;
 pub mod scopes;
 pub mod sequence;
+pub mod steps;

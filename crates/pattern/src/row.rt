@@ -12,7 +12,7 @@ pub struct Row<'a> {
     pub hierarchy: Hierarchy,
     pub kind: Kind,
     pub label: &'a [u8],
-    // 0 for a marker, 1 for bytes, 2 for an algebra
+    // 0 for a marker, 1 for bytes, 2 for an algebra. A number, since a row may have a code that no tag has.
     pub tag_code: u8,
     pub modulus: u64,
     pub degree: usize,

@@ -31,6 +31,8 @@ pub trait Pattern {
         ensures { means self.new ≡ aborted (kept self.old) };
 }
 
+// Each of the four calls below is its marker in one line, so a form that they shared would be no shorter.
+
 // Marks the start of a scope of the given kind.
 pub fn begin<P: Pattern>(
     pattern: &mut P,

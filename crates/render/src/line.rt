@@ -42,7 +42,7 @@ pub(crate) fn put_line<S: Sink>(
     sink.put(b"\n");
 }
 
-// Where a step stands: a closer one level to the left, as its opener.
+// Where a step stands: a closer one level to the left, as its opener. No method, since a step knows of no indentation.
 pub(crate) fn level_of(hierarchy: Hierarchy, depth: usize) -> usize
     ensures { result ≡ level hierarchy depth }
 {

@@ -1,5 +1,6 @@
 // The words that the parts of a step are written by.
-ghost use Rattle.std.specs.Prelude.{◌≡◌};
+// They are put into a sink and not written by a `Display`: that may fail, and a sink, which may be a hash, takes all.
+ghost use Rattle.std.specs.Prelude.{◌≡◌, ◌++◌, codes, decimal};
 ghost use Rattle.sink.specs.Taking.{Takes};
 ghost use Rattle.render.specs.Rendering.{hierarchy_name, kind_name, length_text, tag_text};
 
@@ -39,17 +40,17 @@ pub(crate) fn put_length<S: Sink>(sink: &mut S, length: Length)
     match length {
         Length::None => sink.put(b"None"),
         Length::Scalar => sink.put(b"Scalar"),
-        Length::Fixed(n) => {
-            sink.put(b"Fixed(");
-            put_decimal(sink, n as u64);
-            sink.put(b")");
-        }
-        Length::Bounded(n) => {
-            sink.put(b"Bounded(");
-            put_decimal(sink, n as u64);
-            sink.put(b")");
-        }
+        Length::Fixed(n) => put_counted(sink, b"Fixed(", n),
+        Length::Bounded(n) => put_counted(sink, b"Bounded(", n),
     }
+}
+
+fn put_counted<S: Sink>(sink: &mut S, opening: &[u8], n: usize)
+    ensures { Takes S.holds sink.old (opening.now ++ (decimal n ++ codes ")")) sink.new }
+{
+    sink.put(opening);
+    put_decimal(sink, n as u64);
+    sink.put(b")");
 }
 
 pub(crate) fn put_tag<S: Sink>(sink: &mut S, tag: &TypeTag)

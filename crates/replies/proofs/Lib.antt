@@ -1,3 +1,1 @@
-mod Appends
-mod Copies
 mod Buffers

@@ -1,15 +1,17 @@
-// The answer of a command, and its text.
-ghost use Rattle.std.specs.Prelude.{◌≡◌, ◌++◌, IfOk, OnOk};
+// The answer of a command, and its text: put into a sink, since a `Display` may fail, and a type name is bytes.
+ghost use Rattle.std.specs.Prelude.{◌≡◌, IfOk};
+ghost use Rattle.sink.specs.Taking.{Takes};
 ghost use Rattle.replies.specs.Answers.{response_of};
 ghost use Rattle.replies.specs.Responses.{text, refusal};
 
-use crate::write::{write_algebra, write_bytes, write_number, write_numbers};
+use crate::write::{put_algebra, put_bytes, put_numbers};
 use error::TranscriptError;
+use sink::sink::Sink;
+use sink::vec_sink::VecSink;
+use sink::write::put_decimal;
 use std::alloc::{AllocError, Global};
 use step::text::Text;
-
-// Most answers fit without growing.
-const USUAL: usize = 64;
+use step::type_tag::TypeTag;
 
 #[derive(Drop)]
 pub enum Answer {
@@ -18,12 +20,7 @@ pub enum Answer {
     Numbers(Vec<u64>),
     Bytes(Vec<u8>),
     // The tag of a field, and its type name.
-    Algebra {
-        modulus: u64,
-        degree: u64,
-        basis: [u8; 32],
-        name: Text,
-    },
+    Algebra(TypeTag, Text),
     // A codec's own number for bytes that are no value.
     Fault(u8),
     Refused(TranscriptError),
@@ -34,56 +31,51 @@ impl Answer {
     pub fn to_text(&self, heap: Global) -> Result<Vec<u8>, AllocError>
         ensures { IfOk result (λ v. v.items ≡ text (response_of self.now)) }
     {
-        let mut out = Vec::with_capacity(heap, USUAL)?;
-        self.write(&mut out)?;
-        Ok(out)
+        let mut out = VecSink::new(heap);
+        self.put(&mut out);
+        out.finish()
     }
 
-    fn write(&self, out: &mut Vec<u8>) -> Result<(), AllocError>
-        ensures { OnOk result (out.new.items ≡ out.old.items ++ text (response_of self.now)) }
+    fn put<S: Sink>(&self, sink: &mut S)
+        ensures { Takes S.holds sink.old (text (response_of self.now)) sink.new }
     {
         match self {
-            Answer::Error => out.extend_from_slice(b"error"),
+            Answer::Error => sink.put(b"error"),
             Answer::Number(n) => {
-                out.extend_from_slice(b"ok ")?;
-                write_number(*n, out)
+                sink.put(b"ok ");
+                put_decimal(sink, *n);
             }
             Answer::Numbers(numbers) => {
-                out.extend_from_slice(b"ok")?;
-                write_numbers(numbers.as_slice(), out)
+                sink.put(b"ok");
+                put_numbers(sink, numbers.as_slice());
             }
             Answer::Bytes(bytes) => {
-                out.extend_from_slice(b"ok ")?;
-                write_bytes(bytes.as_slice(), out)
+                sink.put(b"ok ");
+                put_bytes(sink, bytes.as_slice());
             }
-            Answer::Algebra {
-                modulus,
-                degree,
-                basis,
-                name,
-            } => {
-                out.extend_from_slice(b"ok ")?;
-                write_algebra(*modulus, *degree, basis, out)?;
-                out.push(b' ')?;
-                out.extend_from_slice(name.as_bytes())
+            Answer::Algebra(tag, name) => {
+                sink.put(b"ok ");
+                put_algebra(sink, tag);
+                sink.put(b" ");
+                sink.put(name.as_bytes());
             }
             Answer::Fault(fault) => {
-                out.extend_from_slice(b"fault ")?;
-                write_number(u64::from(*fault), out)
+                sink.put(b"fault ");
+                put_decimal(sink, u64::from(*fault));
             }
-            Answer::Refused(error) => write_refusal(*error, out),
+            Answer::Refused(error) => put_refusal(sink, *error),
             Answer::RefusedBytes(error, bytes) => {
-                write_refusal(*error, out)?;
-                out.push(b' ')?;
-                write_bytes(bytes.as_slice(), out)
+                put_refusal(sink, *error);
+                sink.put(b" ");
+                put_bytes(sink, bytes.as_slice());
             }
         }
     }
 }
 
-fn write_refusal(error: TranscriptError, out: &mut Vec<u8>) -> Result<(), AllocError>
-    ensures { OnOk result (out.new.items ≡ out.old.items ++ refusal error) }
+fn put_refusal<S: Sink>(sink: &mut S, error: TranscriptError)
+    ensures { Takes S.holds sink.old (refusal error) sink.new }
 {
-    out.extend_from_slice(b"refused ")?;
-    write_number(u64::from(error.number()), out)
+    sink.put(b"refused ");
+    put_decimal(sink, u64::from(error.number()));
 }

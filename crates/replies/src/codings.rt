@@ -1,4 +1,4 @@
-// What the fields and codecs of a script's names do. No unit has a part in it, so each codec is taken over bytes.
+// What the fields and codecs of a script's names do. No unit has a part in it, so each codec is taken over bytes. A codec is a type, so each function matches on the name.
 ghost use Rattle.std.specs.Prelude.{◌≡◌, IfOk};
 ghost use Rattle.replies.specs.Answers.{response_of};
 ghost use Rattle.replies.specs.Codings.{code_of, decoded_by, wire_of, tag_of, name_of};
@@ -29,7 +29,7 @@ fn encode_by<T, K: Codec<u8, T>>(heap: Global, value: &T) -> Result<Vec<u8>, All
 {
     let mut wire = vec![in heap; 0u8; K::wire_len()]?;
     // There is room, so it is not refused.
-    let _ = K::encode(value, wire.as_mut_slice(), 0);
+    K::encode(value, wire.as_mut_slice(), 0).unwrap();
     Ok(wire)
 }
 
@@ -38,10 +38,7 @@ pub(crate) fn decode(codec: CodecName, bytes: &[u8]) -> Result<u64, u8>
     ensures { result ≡ decoded_by codec bytes.now }
 {
     match codec {
-        CodecName::BabyBear => match <BabyBearCodec as Codec<u8, u32>>::decode(bytes) {
-            Ok(n) => Ok(u64::from(n)),
-            Err(fault) => Err(fault),
-        },
+        CodecName::BabyBear => <BabyBearCodec as Codec<u8, u32>>::decode(bytes).map(u64::from),
         CodecName::Goldilocks => <GoldilocksCodec as Codec<u8, u64>>::decode(bytes),
         CodecName::GoldilocksShort => <GoldilocksShortCodec as Codec<u8, u64>>::decode(bytes),
     }
@@ -61,15 +58,11 @@ pub(crate) fn security_bits(codec: CodecName) -> u32
 pub(crate) fn tag(field: FieldName) -> Answer
     ensures { response_of result ≡ tagged (tag_of field) (name_of field) }
 {
-    let (tag, name) = match field {
-        FieldName::BabyBear => (BabyBear::algebra_tag(), BabyBear::type_name()),
-        FieldName::Goldilocks => (Goldilocks::algebra_tag(), Goldilocks::type_name()),
-    };
-    let basis = tag.basis;
-    Answer::Algebra {
-        modulus: tag.modulus,
-        degree: tag.degree as u64,
-        basis,
-        name,
+    match field {
+        FieldName::BabyBear => Answer::Algebra(BabyBear::algebra_tag(), BabyBear::type_name()),
+        FieldName::Goldilocks => Answer::Algebra(
+            Goldilocks::algebra_tag(),
+            Goldilocks::type_name(),
+        ),
     }
 }

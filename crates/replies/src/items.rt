@@ -19,20 +19,14 @@ pub(crate) fn items(heap: Global, unit: UnitName, bytes: &[u8]) -> Result<Vec<u6
 fn byte_items(heap: Global, bytes: &[u8]) -> Result<Vec<u64>, AllocError>
     ensures { IfOk result (λ v. v.items ≡ bytes.now) }
 {
-    let mut items = Vec::with_capacity(heap, bytes.len())?;
-    for b in bytes {
-        items.push(u64::from(*b))?;
-    }
-    Ok(items)
+    bytes.iter().map(|b| u64::from(*b)).collect(heap)
 }
 
+// By their places: an iterator that the unit handed out would have no type that can be named.
 fn word_items(heap: Global, bytes: &[u8]) -> Result<Vec<u64>, AllocError>
     ensures { IfOk result (λ v. v.items ≡ words bytes.now) }
 {
-    let count = WordUnit::word_count(bytes);
-    let mut items = Vec::with_capacity(heap, count)?;
-    for i in 0..count {
-        items.push(u64::from(WordUnit::word(bytes, i)))?;
-    }
-    Ok(items)
+    (0..WordUnit::word_count(bytes))
+        .map(|i| u64::from(WordUnit::word(bytes, i)))
+        .collect(heap)
 }

@@ -55,6 +55,7 @@ fn encode_len(heap: Global, len: usize, width: usize) -> Result<Answer, AllocErr
     }
 }
 
+// By name and not by `From`, here and below: a conversion of any Result with a number in it would not say that it is a fault.
 fn decode_len(bytes: &[u8], width: usize) -> Answer
     ensures { response_of result ≡ answered (decode_len bytes.now width) }
 {

@@ -1,67 +1,41 @@
 // Numbers, bytes and tags as an answer has them.
-ghost use Rattle.std.specs.Prelude.{◌≡◌, ◌<◌, ◌++◌, decimal, OnOk};
 ghost use Rattle.std.specs.List.{flat_map};
-ghost use Rattle.replies.specs.Texts.{hex_text, hex_digit, spaced, algebra_text};
+ghost use Rattle.sink.specs.Taking.{Takes};
+ghost use Rattle.replies.specs.Texts.{hex_text, spaced, algebra_text};
 
-use std::alloc::AllocError;
-
-// In decimal.
-pub(crate) fn write_number(n: u64, out: &mut Vec<u8>) -> Result<(), AllocError>
-    ensures { OnOk result (out.new.items ≡ out.old.items ++ decimal n) }
-{
-    if n >= 10 {
-        write_number(n / 10, out)?;
-    }
-    out.push(b'0' + (n % 10) as u8)?;
-    Ok(())
-}
+use sink::sink::Sink;
+use sink::write::{put_decimal, put_hex};
+use step::type_tag::TypeTag;
 
 // Each after a space.
-pub(crate) fn write_numbers(numbers: &[u64], out: &mut Vec<u8>) -> Result<(), AllocError>
-    ensures { OnOk result (out.new.items ≡ out.old.items ++ flat_map spaced numbers.now) }
+pub(crate) fn put_numbers<S: Sink>(sink: &mut S, numbers: &[u64])
+    ensures { Takes S.holds sink.old (flat_map spaced numbers.now) sink.new }
 {
     for n in numbers {
-        out.push(b' ')?;
-        write_number(*n, out)?;
+        sink.put(b" ");
+        put_decimal(sink, *n);
     }
-    Ok(())
 }
 
 // In pairs of digits, and `-` for no bytes.
-pub(crate) fn write_bytes(bytes: &[u8], out: &mut Vec<u8>) -> Result<(), AllocError>
-    ensures { OnOk result (out.new.items ≡ out.old.items ++ hex_text bytes.now) }
+pub(crate) fn put_bytes<S: Sink>(sink: &mut S, bytes: &[u8])
+    ensures { Takes S.holds sink.old (hex_text bytes.now) sink.new }
 {
-    if bytes.len() == 0 {
-        out.push(b'-')?;
-        return Ok(());
+    match bytes {
+        [] => sink.put(b"-"),
+        _ => put_hex(sink, bytes),
     }
-    for b in bytes {
-        out.extend_from_slice(&[hex_digit(*b / 16), hex_digit(*b % 16)])?;
-    }
-    Ok(())
 }
 
-fn hex_digit(d: u8) -> u8
-    requires { d < 16 }
-    ensures { result ≡ hex_digit d }
+// Not by the rendering's writer, which writes the same: what an answer says is its own format, and a rendering is hashed.
+pub(crate) fn put_algebra<S: Sink>(sink: &mut S, tag: &TypeTag)
+    ensures { Takes S.holds sink.old (algebra_text tag.now.modulus tag.now.degree tag.now.basis) sink.new }
 {
-    if d < 10 { b'0' + d } else { b'a' + (d - 10) }
-}
-
-pub(crate) fn write_algebra(
-    modulus: u64,
-    degree: u64,
-    basis: &[u8],
-    out: &mut Vec<u8>,
-) -> Result<(), AllocError>
-    ensures { OnOk result (out.new.items ≡ out.old.items ++ algebra_text modulus degree basis.now) }
-{
-    out.extend_from_slice(b"Algebra(")?;
-    write_number(modulus, out)?;
-    out.push(b'^')?;
-    write_number(degree, out)?;
-    out.push(b';')?;
-    write_bytes(basis, out)?;
-    out.push(b')')?;
-    Ok(())
+    sink.put(b"Algebra(");
+    put_decimal(sink, tag.modulus);
+    sink.put(b"^");
+    put_decimal(sink, tag.degree as u64);
+    sink.put(b";");
+    put_bytes(sink, &tag.basis);
+    sink.put(b")");
 }

@@ -1,25 +1,24 @@
 -- Where the first line and the first word end, and what is left after them.
-use Rattle.std.proofs.Common.{◌≡◌, ℕ, suc, ◌+◌, ◌<◌, true, false, cond, eqb, List, [], ◌∷◌, length, get_or, take, drop, sym, refl, ap, ◌∙◌, subst, inl, inr, add-one, arith}
-use Rattle.std.proofs.lemmas.List.{at_drop_more, drop_more, take_all, drop_all, nil_from_length}
+use Rattle.std.proofs.Common.{◌≡◌, ℕ, zero, suc, ◌+◌, ◌<◌, ◌≤◌, true, false, cond, eqb, List, [], ◌∷◌, Some, None, Option, length, get_or, take, drop, sym, refl, ap, ◌∙◌, subst, inl, inr, add-one, arith}
+use Rattle.std.proofs.lemmas.List.{take_rest, drop_all, nil_from_length}
 use Rattle.std.proofs.lemmas.Bool.{cond-true, cond-false, cases_Bool, eq-eqb, ne_eqb}
+use Rattle.std.specs.Borrow.{Bor}
+use Rattle.std.specs.Option.{unwrap_or}
+use Rattle.std.specs.Slice.{IsGetRangeResult}
 use Rattle.scan.specs.Lines.{lines, place, onto}
 use Rattle.scan.specs.Words.{words, trimmed}
 
--- a search for b that has come to i
-module _ (b : ℕ) (xs : List ℕ) (i : ℕ) (lt : i < length xs) where
-  pub place_found : get_or xs i 0 ≡ b → place b (drop i xs) ≡ 0
-  place_found e = at_drop_more (place b) xs i 0 lt ∙ cond-true _ _ _ (eq-eqb _ _ e)
+pub place_is : (b : ℕ) (xs : List ℕ) (i : ℕ) → i ≤ length xs → ((k : ℕ) → k < i → get_or xs k 0 ≡ b → ⊥) → (i < length xs → get_or xs i 0 ≡ b) → i ≡ place b xs
+place_is b [] i within before found = omega arith
+place_is b (x ∷ xs) zero within before found = sym (cond-true _ _ _ (eq-eqb _ _ (found (omega arith))))
+place_is b (x ∷ xs) (suc i) within before found =
+    ap suc (place_is b xs i (omega arith) (λ k h. before (suc k) (omega arith)) (λ h. found (omega arith))) ∙
+    sym (cond-false _ _ _ (ne_eqb _ _ (before 0 (omega arith))))
 
-  pub place_more : (get_or xs i 0 ≡ b → ⊥) → place b (drop i xs) ≡ suc (place b (drop (i + 1) xs))
-  place_more ne = at_drop_more (place b) xs i 0 lt ∙ cond-false _ _ _ (ne_eqb _ _ ne)
-
--- a search past spaces that has come to i
-module _ (xs : List ℕ) (i : ℕ) (lt : i < length xs) where
-  pub trimmed_more : get_or xs i 0 ≡ 32 → trimmed (drop i xs) ≡ trimmed (drop (i + 1) xs)
-  trimmed_more e = at_drop_more trimmed xs i 0 lt ∙ cond-true _ _ _ (eq-eqb _ _ e)
-
-  pub trimmed_found : (get_or xs i 0 ≡ 32 → ⊥) → trimmed (drop i xs) ≡ drop i xs
-  trimmed_found ne = at_drop_more trimmed xs i 0 lt ∙ cond-false _ _ _ (ne_eqb _ _ ne) ∙ sym (drop_more xs i 0 lt)
+-- what is left of xs from n on, where there is anything
+pub got_rest : (xs : List ℕ) (n : ℕ) (got : Option (Bor (List ℕ))) (none : Bor (List ℕ)) → IsGetRangeResult xs n (length xs) got → none.now ≡ [] → (unwrap_or got none).now ≡ drop n xs
+got_rest xs n None none h e = elim h.0 [ inl past ↦ e ∙ sym (drop_all n xs (omega arith)) | inr past ↦ absurd (omega arith) ]
+got_rest xs n (Some x) none h e = h.0.2 ∙ take_rest xs n
 
 lines_cut : (x : ℕ) (xs : List ℕ) → lines (x ∷ xs) ≡ take (place 10 (x ∷ xs)) (x ∷ xs) ∷ lines (drop (suc (place 10 (x ∷ xs))) (x ∷ xs))
 unfolding lines
@@ -36,11 +35,6 @@ lines_none xs e = ap lines (nil_from_length xs e)
 pub lines_next : (xs : List ℕ) (n : ℕ) → 0 < length xs → n ≡ place 10 xs → lines xs ≡ take n xs ∷ lines (drop (n + 1) xs)
 lines_next [] n some e = absurd (omega arith)
 lines_next (x ∷ xs) n some e = rw (add-one, e) (lines_cut x xs)
-
-pub lines_last : (xs : List ℕ) (n : ℕ) → 0 < length xs → n ≡ place 10 xs → n ≡ length xs → lines xs ≡ xs ∷ lines []
-lines_last xs n some e all =
-    lines_next xs n some e ∙ ap (λ l. l ∷ lines (drop (n + 1) xs)) (take_all n xs (omega arith)) ∙
-    ap (λ rest. xs ∷ lines rest) (drop_all (n + 1) xs (omega arith))
 
 words_cut : (x : ℕ) (xs : List ℕ) → eqb x 32 ≡ false → words (x ∷ xs) ≡ (x ∷ take (place 32 xs) xs) ∷ words (drop (place 32 xs) xs)
 unfolding words

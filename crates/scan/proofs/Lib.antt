@@ -1,3 +1,4 @@
 mod Cuts
+mod Folded
 mod Numerals
 mod Pairs

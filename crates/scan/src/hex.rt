@@ -1,7 +1,7 @@
 // Bytes as a word writes them: pairs of hexadecimal digits in lower case.
-ghost use Rattle.std.specs.Prelude.{◌≡◌, ◌<◌, length, IfOk};
+ghost use Rattle.std.specs.Prelude.{◌≡◌, ◌<◌, [], ◌∷◌, length, IfOk};
 ghost use Rattle.std.specs.Option.{option_map};
-ghost use Rattle.scan.specs.Hex.{is_hex, digit, in_pairs, hexed, bytes_of};
+ghost use Rattle.scan.specs.Hex.{is_hex, digit, in_pairs, paired, hexed, bytes_of};
 
 use std::alloc::{AllocError, Global};
 
@@ -11,7 +11,7 @@ fn is_hex(b: u8) -> bool
     matches!(b, b'0'..=b'9' | b'a'..=b'f')
 }
 
-// The value of a digit, and 0 for any other byte.
+// The value of a digit, and 0 for any other byte: a number for each byte, so that what was checked once needs no second refusal.
 fn value(b: u8) -> u8
     ensures bound { result < 16 }
     ensures value { result ≡ digit b }
@@ -23,17 +23,17 @@ fn value(b: u8) -> u8
     }
 }
 
+// The byte of one pair.
+pub fn byte(high: u8, low: u8) -> Option<u8>
+    ensures { option_map (λ b. b ∷ []) result ≡ paired (high ∷ low ∷ []) }
+{
+    (is_hex(high) && is_hex(low)).then_some(value(high) * 16 + value(low))
+}
+
 fn in_pairs(digits: &[u8]) -> bool
     ensures { result ≡ in_pairs digits.now }
 {
-    let mut rest = digits;
-    while rest.len() >= 2 {
-        if !is_hex(rest[0]) || !is_hex(rest[1]) {
-            return false;
-        }
-        rest = &rest[2..];
-    }
-    rest.len() == 0
+    digits.len() % 2 == 0 && digits.iter().all(|d| is_hex(*d))
 }
 
 // Pairs of digits that stand for bytes.
@@ -47,17 +47,10 @@ impl<'a> Hex<'a> {
     pub fn bytes(word: &'a [u8]) -> Option<Hex<'a>>
         ensures { option_map bytes_of result ≡ hexed word.now }
     {
-        if word.len() < 2 {
-            return if let [b'-'] = word {
-                Some(Hex { digits: &[] })
-            } else {
-                None
-            };
-        }
-        if in_pairs(word) {
-            Some(Hex { digits: word })
-        } else {
-            None
+        match word {
+            [] => None,
+            [b'-'] => Some(Hex { digits: &[] }),
+            _ => in_pairs(word).then_some(Hex { digits: word }),
         }
     }
 
@@ -70,12 +63,10 @@ impl<'a> Hex<'a> {
     pub fn to_vec(&self, heap: Global) -> Result<Vec<u8>, AllocError>
         ensures { IfOk result (λ v. v.items ≡ bytes_of self.now) }
     {
-        let mut bytes = Vec::with_capacity(heap, self.len())?;
-        let mut rest = self.digits;
-        while rest.len() >= 2 {
-            bytes.push(value(rest[0]) * 16 + value(rest[1]))?;
-            rest = &rest[2..];
-        }
-        Ok(bytes)
+        let (pairs, _) = self.digits.as_chunks::<2>();
+        pairs
+            .iter()
+            .map(|[high, low]| value(*high) * 16 + value(*low))
+            .collect(heap)
     }
 }

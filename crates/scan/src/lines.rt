@@ -1,20 +1,16 @@
-// The lines of a text, which borrow it.
-ghost use Rattle.std.specs.Prelude.{◌≡◌, ◌<◌, ◌≤◌, [], ◌∷◌, length, MatchOption, OnSome};
+// The lines of a text, which borrow it. The library's `split` holds a closure, so that its type has no name.
+ghost use Rattle.std.specs.Prelude.{◌≡◌, ◌≤◌, length};
+ghost use Rattle.std.specs.Iterator.{at_most, YieldsFirstRef};
 ghost use Rattle.scan.specs.Lines.{left, place};
 
-const NEWLINE: u8 = 10;
+const NEWLINE: u8 = b'\n';
 
 // The index of the first `b` in `bytes`, or their number where there is none.
 pub(crate) fn first_of(bytes: &[u8], b: u8) -> usize
     ensures value { result ≡ place b bytes.now }
     ensures within { result ≤ length bytes.now }
 {
-    for (i, x) in bytes.iter().enumerate() {
-        if *x == b {
-            return i;
-        }
-    }
-    bytes.len()
+    bytes.iter().position(|x| *x == b).unwrap_or(bytes.len())
 }
 
 #[derive(Clone, Copy)]
@@ -28,22 +24,23 @@ impl<'a> Lines<'a> {
     {
         Lines { rest: text }
     }
+}
+
+impl<'a> Iterator for Lines<'a> {
+    type Item = &'a [u8];
+
+    ghost next_gives = { YieldsFirstRef left };
+
+    ghost remaining = { λ s. at_most (length s.rest.now) };
 
     // The next line without its newline.
-    pub fn next(&mut self) -> Option<&'a [u8]>
-        ensures value { MatchOption result (left self.old ≡ []) (λ l. left self.old ≡ l.now ∷ left self.new) }
-        ensures shorter { OnSome result (length self.new.rest.now < length self.old.rest.now) }
-    {
+    fn next(&mut self) -> Option<&'a [u8]> {
         let text = self.rest;
-        if text.len() == 0 {
+        if text.is_empty() {
             return None;
         }
         let end = first_of(text, NEWLINE);
-        if end == text.len() {
-            self.rest = &[];
-            return Some(text);
-        }
-        self.rest = &text[end + 1..];
-        Some(&text[0..end])
+        self.rest = text.get(end + 1..).unwrap_or(&[]);
+        Some(&text[..end])
     }
 }

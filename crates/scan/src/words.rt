@@ -1,21 +1,21 @@
 // The words of a line, which borrow it.
-ghost use Rattle.std.specs.Prelude.{◌≡◌, [], ◌∷◌, MatchOption};
+ghost use Rattle.std.specs.Prelude.{◌≡◌};
+ghost use Rattle.std.specs.Iterator.{item_count, YieldsFirstRef};
 ghost use Rattle.scan.specs.Words.{left, trimmed};
 
 use crate::lines::first_of;
 
-const SPACE: u8 = 32;
+const SPACE: u8 = b' ';
 
-// `bytes` without the spaces at its front.
+// `bytes` without the spaces at its front; `trim_ascii_start` would take tabs too.
 fn past_spaces(bytes: &[u8]) -> &[u8]
     ensures { result.now ≡ trimmed bytes.now }
 {
-    for (i, x) in bytes.iter().enumerate() {
-        if *x != SPACE {
-            return &bytes[i..];
-        }
+    let mut rest = bytes;
+    while let [SPACE, tail @ ..] = rest {
+        rest = tail;
     }
-    &[]
+    rest
 }
 
 #[derive(Clone, Copy)]
@@ -29,17 +29,22 @@ impl<'a> Words<'a> {
     {
         Words { rest: line }
     }
+}
 
-    pub fn next(&mut self) -> Option<&'a [u8]>
-        ensures { MatchOption result ((left self.old ≡ []) × (left self.new ≡ [])) (λ w. left self.old ≡ w.now ∷ left self.new) }
-    {
-        let rest = past_spaces(self.rest);
-        if rest.len() == 0 {
-            self.rest = rest;
+impl<'a> Iterator for Words<'a> {
+    type Item = &'a [u8];
+
+    ghost next_gives = { YieldsFirstRef left };
+
+    ghost remaining = { item_count left };
+
+    fn next(&mut self) -> Option<&'a [u8]> {
+        self.rest = past_spaces(self.rest);
+        if self.rest.is_empty() {
             return None;
         }
-        let end = first_of(rest, SPACE);
-        self.rest = &rest[end..];
-        Some(&rest[0..end])
+        let (word, rest) = self.rest.split_at(first_of(self.rest, SPACE));
+        self.rest = rest;
+        Some(word)
     }
 }

@@ -1,6 +1,7 @@
 // What a line asks for. Commands borrow the line and allocate nothing.
 use scan::hex::Hex;
 
+// Neither an Option nor a Result: a silent line has no answer, and a wrong one has.
 #[derive(Clone, Copy)]
 pub enum Line<'a> {
     // Has no answer.

@@ -4,14 +4,12 @@ ghost use Rattle.script.specs.Named.{unit_named, field_named, codec_named, fitti
 
 use crate::command::{CodecName, FieldName, UnitName, Value};
 
+// A table for each type: a trait for the three would share only `from_utf8`. An Option, since no caller asks why.
 impl UnitName {
     pub fn named(word: &[u8]) -> Option<UnitName>
         ensures { result ≡ unit_named word.now }
     {
-        let Ok(word) = std::str::from_utf8(word) else {
-            return None;
-        };
-        match word {
+        match std::str::from_utf8(word).ok()? {
             "byte" => Some(UnitName::Byte),
             "word" => Some(UnitName::Word),
             _ => None,
@@ -23,10 +21,7 @@ impl FieldName {
     pub fn named(word: &[u8]) -> Option<FieldName>
         ensures { result ≡ field_named word.now }
     {
-        let Ok(word) = std::str::from_utf8(word) else {
-            return None;
-        };
-        match word {
+        match std::str::from_utf8(word).ok()? {
             "BabyBear" => Some(FieldName::BabyBear),
             "Goldilocks" => Some(FieldName::Goldilocks),
             _ => None,
@@ -38,10 +33,7 @@ impl CodecName {
     pub fn named(word: &[u8]) -> Option<CodecName>
         ensures { result ≡ codec_named word.now }
     {
-        let Ok(word) = std::str::from_utf8(word) else {
-            return None;
-        };
-        match word {
+        match std::str::from_utf8(word).ok()? {
             "BabyBear" => Some(CodecName::BabyBear),
             "Goldilocks" => Some(CodecName::Goldilocks),
             "GoldilocksShort" => Some(CodecName::GoldilocksShort),
@@ -56,8 +48,7 @@ impl Value {
         ensures { result ≡ fitting codec n }
     {
         match codec {
-            CodecName::BabyBear if n > u32::MAX as u64 => None,
-            CodecName::BabyBear => Some(Value::BabyBear(n as u32)),
+            CodecName::BabyBear => u32::try_from(n).ok().map(Value::BabyBear),
             CodecName::Goldilocks => Some(Value::Goldilocks(n)),
             CodecName::GoldilocksShort => Some(Value::GoldilocksShort(n)),
         }

@@ -1,4 +1,4 @@
-// What the program writes.
+// What the program writes: all of it into one sink, since a rendering goes into one.
 use domain_separator::separator::DomainSeparator;
 use error::TranscriptError;
 use pattern::sequence::InteractionPattern;
@@ -13,7 +13,7 @@ pub fn say<S: Sink>(out: &mut S, asked: &[u8], answer: &Result<(), TranscriptErr
         Ok(()) => out.put(b": ok\n"),
         Err(refusal) => {
             out.put(b": refused by ");
-            put_decimal(out, refusal.number() as u64);
+            put_decimal(out, u64::from(refusal.number()));
             out.put(b"\n");
         }
     }

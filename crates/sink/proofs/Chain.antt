@@ -17,9 +17,6 @@ module _ {S : Type 0} (Holds : S → List ℕ → Type 0) where
   abbrev pub Leaves : S → List ℕ → S → List ℕ → Type 0
   Leaves a all b left = (c : S) → Takes Holds b left c → Takes Holds a all c
 
-  pub start : (a : S) (all : List ℕ) → Leaves a all a all
-  start a all c h = h
-
   pub more : (a b b' : S) (all left xs ys : List ℕ) → left ≡ xs ++ ys → Leaves a all b left → Takes Holds b xs b' → Leaves a all b' ys
   more a b b' all left xs ys e inv h c k = inv c (same b c (xs ++ ys) left (sym e) (then b b' c xs ys h k))
 

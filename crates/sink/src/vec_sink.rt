@@ -1,4 +1,4 @@
-// A sink that keeps the bytes in memory, and remembers whether there was too little of it.
+// A sink that keeps the bytes in memory, until there is too little of it.
 ghost use Rattle.std.specs.Prelude.{◌≡◌, ℕ, true, List, [], is_ok, IfOk};
 ghost use Rattle.sink.specs.Keeping.{Keeps};
 
@@ -8,18 +8,16 @@ use std::alloc::{AllocError, Global};
 // After a failure nothing more is kept.
 #[derive(Drop)]
 pub struct VecSink {
-    bytes: Vec<u8>,
-    outcome: Result<(), AllocError>,
+    kept: Result<Vec<u8>, AllocError>,
 }
 
 impl VecSink {
     pub fn new(heap: Global) -> VecSink
         ensures empty { Keeps result [] }
-        ensures ready { is_ok result.outcome ≡ true }
+        ensures ready { is_ok result.kept ≡ true }
     {
         VecSink {
-            bytes: Vec::new(heap),
-            outcome: Ok(()),
+            kept: Ok(Vec::new(heap)),
         }
     }
 
@@ -27,8 +25,7 @@ impl VecSink {
     pub fn finish(self) -> Result<Vec<u8>, AllocError>
         ensures { (m : List ℕ) → Keeps self m → IfOk result (λ v. v.items ≡ m) }
     {
-        self.outcome?;
-        Ok(self.bytes)
+        self.kept
     }
 }
 
@@ -36,8 +33,10 @@ impl Sink for VecSink {
     ghost holds = { Keeps };
 
     fn put(&mut self, bytes: &[u8]) {
-        if self.outcome.is_ok() {
-            self.outcome = self.bytes.extend_from_slice(bytes);
+        if let Ok(kept) = &mut self.kept {
+            if let Err(failure) = kept.extend_from_slice(bytes) {
+                self.kept = Err(failure);
+            }
         }
     }
 }

@@ -10,21 +10,13 @@ use crate::sink::Sink;
 pub fn decimal_len(n: u64) -> usize
     ensures { result ≡ length (decimal n) }
 {
-    if n < 10 {
-        return 1;
-    }
-    decimal_len(n / 10) + 1
+    itoa::Buffer::new().format(n).len()
 }
 
 pub fn put_decimal<S: Sink>(sink: &mut S, n: u64)
     ensures { Takes S.holds sink.old (decimal n) sink.new }
 {
-    if n < 10 {
-        sink.put(&[b'0' + n as u8]);
-        return;
-    }
-    put_decimal(sink, n / 10);
-    sink.put(&[b'0' + (n % 10) as u8]);
+    sink.put(itoa::Buffer::new().format(n).as_bytes());
 }
 
 // `bytes` so many times.
@@ -44,6 +36,7 @@ pub fn put_padded<S: Sink>(sink: &mut S, n: u64, width: usize)
     put_decimal(sink, n);
 }
 
+// `char::from_digit` would give an optional `char`, where a byte is wanted that is always there.
 fn hex_digit(d: u8) -> u8
     requires { d < 16 }
     ensures { result ≡ digit_glyph false d }

@@ -7,5 +7,6 @@ use pattern::draft::Draft;
 #[derive(Drop)]
 pub struct PatternState {
     draft: Draft,
+    // A recorder that a refusal ended still shows its steps, so no missing draft stands for it.
     ended: bool,
 }

@@ -1,4 +1,3 @@
-pub mod Deciding
 pub mod Texts
 pub mod Sames
 pub mod Copying

@@ -1,7 +1,7 @@
 -- Two texts are one where what they hold is.
-use Rattle.std.proofs.Common.{◌≡◌, ℕ, ◌-◌, Bool, true, false, ◌&&◌, leb, List, ◌++◌, length, drop, replicate, Ok, Err, sym, refl, ap, ◌∙◌, ap₂, arith, leb-true}
-use Rattle.error.specs.declared.TranscriptError.{TranscriptError}
+use Rattle.std.proofs.Common.{◌≡◌, ℕ, ◌-◌, Bool, true, false, ◌&&◌, leb, List, ◌++◌, length, drop, replicate, is_ok, Ok, Err, sym, refl, ap, ◌∙◌, ap₂, arith, leb-true}
 use Rattle.error.specs.declared.TranscriptError.TheVariants.{InvalidField}
+use Rattle.std.proofs.lemmas.Bool.{false≢true}
 use Rattle.std.proofs.lemmas.Bool.Decides.{nat_tests}
 use Rattle.std.proofs.lemmas.List.{length-take-le, take-append-drop, take_at}
 use Rattle.step.specs.Comparing.{same_fields}
@@ -20,7 +20,7 @@ same_content a b e =
     same_fields a b eb el
 
 clash : {P : Type 0} → false ≡ true → P
-clash e = let z : ◌≡◌ {A = ℕ} 0 1 = cc in absurd (omega arith)
+clash e = absurd (false≢true e)
 
 module _ (bs : List ℕ) where
   content_of : (short : leb (length bs) 48 ≡ true) (print : all_print bs ≡ true) → content (text_of bs (leb-true (length bs) 48 short) print) ≡ bs
@@ -60,10 +60,8 @@ module _ (bs : List ℕ) where
   made_content t e = by_content t (leb (length bs) 48) (all_print bs) refl refl e
 
   -- bytes that are a text make one
-  pub made_err : {e : TranscriptError} → is_text bs ≡ true → made_text bs ≡ Err e → ⊥
-  unfolding made_text
-  made_err {e} h r =
+  pub made_is_ok : is_text bs ≡ true → is_ok (made_text bs) ≡ true
+  made_is_ok h =
       let a : leb (length bs) 48 ≡ true = grind (arith, nat_tests) in
       let b : all_print bs ≡ true = grind (arith, nat_tests) in
-      let ok = by_ok (text_of bs (leb-true (length bs) 48 a) b) (content_of a b) (leb (length bs) 48) (all_print bs) refl refl a b in
-      clash (let z : false ≡ true = cc in z)
+      ap is_ok (made_ok (text_of bs (leb-true (length bs) 48 a) b) h (content_of a b))

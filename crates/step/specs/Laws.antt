@@ -5,10 +5,17 @@ use Rattle.step.specs.contracts.interaction.InteractionPartialEq.TheImpl as step
 use Rattle.step.specs.contracts.interaction.KindPartialEq.TheImpl as kind
 use Rattle.step.specs.contracts.interaction.LengthPartialEq.TheImpl as length_form
 use Rattle.step.specs.contracts.tag_code.TagCodePartialEq.TheImpl as code
+use Rattle.step.specs.contracts.text.TextPartialEq.TheImpl as text
+use Rattle.step.specs.contracts.type_tag.TypeTagPartialEq.TheImpl as tag
+use Rattle.step.specs.Steps.{same_text, same_tag}
 
 -- a test decides whether two values are one
 abbrev pub Tells : {X : Type 0} → (X → X → Bool) → Type 0
 Tells {X} eq = (a b : X) → Decides (eq a b) (a ≡ b)
+
+-- a test answers as another does
+abbrev pub Computes : {X : Type 0} → (X → X → Bool) → (X → X → Bool) → Type 0
+Computes {X} eq test = (a b : X) → eq a b ≡ test a b
 
 -- Of the tests that the derived `==` compute.
 pub record EqualitiesTell : Type 0 where
@@ -16,4 +23,8 @@ pub record EqualitiesTell : Type 0 where
   pub kinds : Tells kind.ghosts.eq
   pub lengths : Tells length_form.ghosts.eq
   pub codes : Tells code.ghosts.eq
+  pub texts : Tells text.ghosts.eq
+  pub tags : Tells tag.ghosts.eq
   pub steps : Tells step.ghosts.eq
+  pub same_texts : Computes text.ghosts.eq same_text
+  pub same_tags : Computes tag.ghosts.eq same_tag

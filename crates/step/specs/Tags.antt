@@ -4,12 +4,14 @@ use Rattle.std.proofs.Common.{subst}
 use Rattle.error.specs.declared.TranscriptError.{TranscriptError}
 use Rattle.error.specs.declared.TranscriptError.TheVariants.{InvalidField}
 use Rattle.std.specs.Str.{bytes_eq}
+use Rattle.step.specs.declared.tag_code.TagCode.{TagCode}
 use Rattle.step.specs.declared.tag_code.TagCode.TheVariants.{Marker, Bytes, Algebra}
 use Rattle.step.specs.declared.type_tag.TypeTag.{TypeTag}
 
-abbrev pub marker : TypeTag
-marker = record {
-  code = Marker;
+-- a tag that carries no number
+abbrev pub of_code : TagCode → TypeTag
+of_code code = record {
+  code = code;
   modulus = 0;
   degree = 0;
   basis = replicate 32 0;
@@ -18,16 +20,11 @@ marker = record {
   no_basis = λ _. refl;
 }
 
+abbrev pub marker : TypeTag
+marker = of_code Marker
+
 abbrev pub raw_bytes : TypeTag
-raw_bytes = record {
-  code = Bytes;
-  modulus = 0;
-  degree = 0;
-  basis = replicate 32 0;
-  no_modulus = λ _. refl;
-  no_degree = λ _. refl;
-  no_basis = λ _. refl;
-}
+raw_bytes = of_code Bytes
 
 -- an algebra is not plain, so nothing is asked of its numbers
 pub not_plain : {P : Type 0} → false ≡ true → P

@@ -86,6 +86,7 @@ impl Interaction {
     }
 
     // Whether the two are alike in all six fields.
+    #[tactic(auto, using(crate::proofs::Sames::alike_is))]
     pub fn is_alike(&self, other: &Interaction) -> bool
         ensures { result ≡ alike self.now other.now }
     {
@@ -93,22 +94,22 @@ impl Interaction {
     }
 
     // Whether a step of that kind may stand in the scope that this one opens.
+    #[tactic(auto, using(crate::proofs::Sames::kind_is), unfolding(crate::specs::Steps::admits))]
     pub fn admits(&self, inner: &Interaction) -> bool
         ensures { result ≡ admits self.now inner.now }
     {
-        (self.kind == Kind::Protocol) | (self.kind == inner.kind)
+        self.kind == Kind::Protocol || self.kind == inner.kind
     }
 
     // Whether this closer closes the scope that `other` opens: they agree in all but the hierarchy.
+    #[tactic(auto, using(crate::proofs::Sames::closes_open, crate::proofs::Sames::closes_shut))]
     pub fn closes(&self, other: &Interaction) -> bool
         ensures { result ≡ closes self.now other.now }
     {
-        (self.hierarchy == Hierarchy::End)
-            & (other.hierarchy == Hierarchy::Begin)
-            & (self.kind == other.kind)
-            & (self.label == other.label)
-            & (self.type_tag == other.type_tag)
-            & (self.type_name == other.type_name)
-            & (self.length == other.length)
+        let closer = Interaction {
+            hierarchy: Hierarchy::End,
+            ..*other
+        };
+        other.hierarchy == Hierarchy::Begin && *self == closer
     }
 }

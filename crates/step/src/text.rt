@@ -4,8 +4,9 @@ pub mod methods;
 ghost use Rattle.std.specs.Prelude.{◌≡◌, ◌-◌, ◌≤◌, true, length, take, drop, replicate};
 ghost use Rattle.step.specs.Printable.{all_print};
 
-// Zeros stand after the text, so that two texts are equal exactly if what they hold is.
-#[derive(Clone, Copy)]
+// Zeros stand after the text, so that two texts are equal exactly if what they hold is. The library's `ArrayString` promises
+// nothing of its unused bytes, so two of them that hold the same need not be one value.
+#[derive(Clone, Copy, PartialEq, Eq)]
 pub struct Text {
     bytes: [u8; 48],
     len: usize,

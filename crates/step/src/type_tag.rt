@@ -6,8 +6,8 @@ ghost use Rattle.step.specs.TagCodes.{plain};
 
 use crate::tag_code::TagCode;
 
-// Only an algebra uses modulus, degree and basis; in the others they are zero.
-#[derive(Clone, Copy)]
+// A record, and not the values of one case: its fields are public, and what a tag does not use is promised to be zero.
+#[derive(Clone, Copy, PartialEq, Eq)]
 pub struct TypeTag {
     pub code: TagCode,
     pub modulus: u64,

@@ -14,8 +14,7 @@ fn main(rt: HostRuntime) -> io::Result<()> {
     rt.stdin().read_to_end(&mut text)?;
     let mut stdout = rt.stdout();
     let mut out = Vec::new(heap);
-    let mut lines = Lines::new(text.as_slice());
-    while let Some(line) = lines.next() {
+    for line in Lines::new(text.as_slice()) {
         respond(heap, line, &mut out)?;
         if out.len() >= FULL {
             stdout.write_all(out.as_slice())?;

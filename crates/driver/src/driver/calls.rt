@@ -39,6 +39,8 @@ impl<C: CanObserve<U::Item>, U: Unit> Driver<C, U> {
         }
     }
 
+    // An opener and a closer are two calls for whoever drives this, so they are two here: one line each. The player is asked
+    // itself, and not by the interface's begin and end: its own promise says where it stands afterwards.
     pub fn begin(&mut self, kind: Kind, label: Text, type_name: Text) -> Result<(), TranscriptError>
         ensures answer { result ≡ (marked (begins kind label type_name) (core_of C.CanObserve.means self.old)).answer }
         ensures after { core_of C.CanObserve.means self.new ≡ (marked (begins kind label type_name) (core_of C.CanObserve.means self.old)).left }

@@ -4,7 +4,7 @@ ghost use Rattle.keccak.specs.Sponge.{keccak_256};
 ghost use Rattle.keccak.specs.Hasher.{view, fresh, absorb_into, digest_of, HasAbsorbed};
 
 use super::Keccak256;
-use crate::sponge::{FIRST_PADDING_BYTE, absorb_block, absorb_blocks, close};
+use crate::sponge::{FIRST_PADDING_BYTE, absorb_block, absorb_blocks, close, last_block};
 
 impl Keccak256 {
     pub fn new() -> Self
@@ -36,12 +36,11 @@ impl Keccak256 {
         ensures absorbed { (m : List ℕ) → HasAbsorbed self.old m → HasAbsorbed self.new (m ++ bytes.now) }
     {
         let room = 136 - self.filled;
-        if bytes.len() < room {
+        let Some((first, others)) = bytes.split_at_checked(room) else {
             self.block[self.filled..self.filled + bytes.len()].copy_from_slice(bytes);
             self.filled += bytes.len();
             return;
-        }
-        let (first, others) = bytes.split_at(room);
+        };
         self.block[self.filled..136].copy_from_slice(first);
         absorb_block(&mut self.state, &self.block);
         let rest = absorb_blocks(&mut self.state, others);
@@ -54,6 +53,9 @@ impl Keccak256 {
         ensures hash { (m : List ℕ) → HasAbsorbed self m → result ≡ keccak_256 m }
     {
         let mut state = self.state;
-        close(FIRST_PADDING_BYTE, &mut state, &self.block[0..self.filled])
+        close(
+            &mut state,
+            &last_block(FIRST_PADDING_BYTE, &self.block[0..self.filled]),
+        )
     }
 }

@@ -6,29 +6,30 @@ ghost use Rattle.pattern.specs.Walk.{added, checked};
 use super::Draft;
 use crate::scopes::Scopes;
 use crate::sequence::InteractionPattern;
-use crate::sequence::validator::{blank, nest};
+use crate::sequence::validator::nest;
+use crate::steps::Steps;
 use error::TranscriptError;
 use step::interaction::Interaction;
 
 impl Draft {
+    #[tactic(auto, using(crate::proofs::Opening::runs_none))]
     pub fn new() -> Draft
         ensures { drafted result ≡ [] }
     {
         Draft {
-            steps: [blank(); 64],
-            len: 0,
+            steps: Steps::new(),
             scopes: Scopes::new(),
         }
     }
 
     // One step more, where it nests and a place is free; else nothing changes.
+    #[tactic(auto, using(crate::proofs::Drafting::answered, crate::proofs::Opening::opened, crate::proofs::Nesting::met_free))]
     pub fn add(&mut self, interaction: Interaction) -> Result<(), TranscriptError>
         ensures answer { result ≡ added (drafted self.old) interaction }
         ensures steps { drafted self.new ≡ (if is_ok result then drafted self.old ++ interaction ∷ [] else drafted self.old) }
     {
-        let scopes = nest(&self.steps[0..self.len], self.scopes, &interaction)?;
-        self.steps[self.len] = interaction;
-        self.len += 1;
+        let scopes = nest(self.steps.as_slice(), self.scopes, &interaction)?;
+        self.steps.push(interaction);
         self.scopes = scopes;
         Ok(())
     }
@@ -37,10 +38,11 @@ impl Draft {
     pub fn interactions(&self) -> &[Interaction]
         ensures { result.now ≡ drafted self.now }
     {
-        &self.steps[0..self.len]
+        self.steps.as_slice()
     }
 
     // The pattern of these steps, where every scope is closed.
+    #[tactic(auto, using(crate::proofs::Drafting::left_open, crate::proofs::Drafting::all_closed, crate::proofs::Opening::opened))]
     pub fn close(&self) -> Result<InteractionPattern, TranscriptError>
         ensures value { pattern_result result ≡ checked (drafted self.now) }
         ensures refusal { Unclosed (pattern_result result) }
@@ -48,6 +50,6 @@ impl Draft {
         if let Some(position) = self.scopes.last() {
             return Err(TranscriptError::MissingEnd { position });
         }
-        Ok(InteractionPattern::of_table(self.steps, self.len))
+        Ok(InteractionPattern::of_steps(self.steps))
     }
 }

@@ -1,23 +1,21 @@
 // The structural check of a sequence of steps, and reading a pattern.
-ghost use Rattle.std.specs.Prelude.{◌≡◌, ℕ, ◌+◌, ◌≤◌, true, List, length, take, is_ok, Ok, ◌==◌};
-ghost use Rattle.pattern.specs.Patterns.{steps as steps_of, with_open, held_result, pattern_result, Low, LowResult};
-ghost use Rattle.pattern.specs.Stack.{held};
+ghost use Rattle.std.specs.Prelude.{◌≡◌, ℕ, ◌+◌, true, List, length, is_ok, Ok, ◌==◌};
+ghost use Rattle.pattern.specs.Listed.{listed};
+ghost use Rattle.pattern.specs.Patterns.{steps as steps_of, with_open, held_result, pattern_result, Within, WithinResult};
+ghost use Rattle.pattern.specs.Stack.{open_of};
 ghost use Rattle.pattern.specs.Walk.{nested, closed, placed, met, validated, checked};
 
 use super::InteractionPattern;
 use crate::candidate::Candidate;
 use crate::scopes::Scopes;
+use crate::steps::Steps;
 use error::TranscriptError;
-use step::interaction::{Hierarchy, Interaction, Kind};
-use step::text::Text;
+use step::interaction::{Hierarchy, Interaction};
 
 // How many steps a pattern holds.
 const MAX_STEPS: usize = 64;
 
-// What stands in the places of a table that hold no step yet.
-pub(crate) fn blank() -> Interaction {
-    Interaction::marker(Hierarchy::Atomic, Kind::Protocol, Text::u8(), Text::u8())
-}
+// `before` and `scopes` stand side by side, in no struct that says `Within` of them: once an opener is pushed the fact is one of the next place, so the struct would have to be left before the push.
 
 // Whether `step` may stand in the innermost of the scopes that are open after `before`.
 fn check_nested_kind(
@@ -25,8 +23,8 @@ fn check_nested_kind(
     scopes: &Scopes,
     step: &Interaction,
 ) -> Result<(), TranscriptError>
-    requires { Low (length before.now) (held scopes.now.at scopes.now.depth) }
-    ensures { (open' : List ℕ) → with_open open' result ≡ nested before.now (held scopes.now.at scopes.now.depth) step.now open' }
+    requires { Within (length before.now) (open_of scopes.now) }
+    ensures { (open' : List ℕ) → with_open open' result ≡ nested before.now (open_of scopes.now) step.now open' }
 {
     let Some(begin_position) = scopes.last() else {
         return Ok(());
@@ -46,10 +44,9 @@ fn close_scope(
     scopes: &mut Scopes,
     step: &Interaction,
 ) -> Result<(), TranscriptError>
-    requires { Low (length before.now) (held scopes.old.at scopes.old.depth) }
-    ensures value { with_open (held scopes.new.at scopes.new.depth) result ≡ closed before.now (held scopes.old.at scopes.old.depth) step.now }
-    ensures low { Low (length before.now) (held scopes.new.at scopes.new.depth) }
-    ensures depth { scopes.new.depth ≤ scopes.old.depth }
+    requires { Within (length before.now) (open_of scopes.old) }
+    ensures value { with_open (open_of scopes.new) result ≡ closed before.now (open_of scopes.old) step.now }
+    ensures within { Within (length before.now) (open_of scopes.new) }
 {
     let Some(begin_position) = scopes.pop() else {
         return Err(TranscriptError::MissingBegin {
@@ -77,15 +74,15 @@ fn check_place(before: &[Interaction]) -> Result<(), TranscriptError>
 }
 
 // The scopes that are open when `step` comes after `before`, which left `scopes` open.
+#[tactic(auto, using(crate::proofs::Stacks::within_more, crate::proofs::Stacks::within_push), unfolding(crate::specs::Walk::met))]
 pub(crate) fn nest(
     before: &[Interaction],
     mut scopes: Scopes,
     step: &Interaction,
 ) -> Result<Scopes, TranscriptError>
-    requires low { Low (length before.now) (held scopes.at scopes.depth) }
-    requires few { scopes.depth ≤ length before.now }
-    ensures value { held_result result ≡ met before.now (held scopes.at scopes.depth) step.now }
-    ensures low { LowResult (length before.now + 1) result }
+    requires { Within (length before.now) (open_of scopes) }
+    ensures value { held_result result ≡ met before.now (open_of scopes) step.now }
+    ensures within { WithinResult (length before.now + 1) result }
 {
     match step.hierarchy {
         Hierarchy::Begin => {
@@ -109,41 +106,38 @@ pub(crate) fn nest(
 
 impl InteractionPattern {
     // Build a pattern from a sequence of steps, or of plain rows, after validating its structure.
+    #[tactic(auto, using(crate::proofs::Walking::open_at_end, crate::proofs::Walking::closed_at_end, crate::proofs::Walking::validated_checked))]
     pub fn new<S: Candidate>(rows: &[S]) -> Result<InteractionPattern, TranscriptError>
         ensures { pattern_result result ≡ validated S.Candidate.made rows.now }
     {
-        let mut steps = [blank(); 64];
+        let mut steps = Steps::new();
         // Positions of the openers that are still open.
         let mut scopes = Scopes::new();
+        // A refusal names a step by its position.
         for (position, row) in rows.iter().enumerate() {
             let step = row.step()?;
-            scopes = nest(&steps[0..position], scopes, &step)?;
-            steps[position] = step;
+            scopes = nest(&steps.as_slice()[..position], scopes, &step)?;
+            steps.push(step);
         }
         if let Some(position) = scopes.pop() {
             return Err(TranscriptError::MissingEnd { position });
         }
-        Ok(InteractionPattern {
-            steps,
-            len: rows.len(),
-        })
+        Ok(InteractionPattern { steps })
     }
 
-    // The first `len` steps of a table, which have been checked.
-    pub(crate) fn of_table(steps: [Interaction; 64], len: usize) -> InteractionPattern
-        requires whole { length steps ≡ 64 }
-        requires fits { len ≤ 64 }
-        requires nested { is_ok (checked (take len steps)) ≡ true }
-        ensures { steps_of result ≡ take len steps }
+    // Steps that have been checked.
+    pub(crate) fn of_steps(steps: Steps) -> InteractionPattern
+        requires { is_ok (checked (listed steps)) ≡ true }
+        ensures { steps_of result ≡ listed steps }
     {
-        InteractionPattern { steps, len }
+        InteractionPattern { steps }
     }
 
     // The steps, in order.
     pub fn interactions(&self) -> &[Interaction]
         ensures { result.now ≡ steps_of self.now }
     {
-        &self.steps[0..self.len]
+        self.steps.as_slice()
     }
 
     pub fn len(&self) -> usize

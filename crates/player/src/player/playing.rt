@@ -27,11 +27,11 @@ impl PatternPlayer {
         if self.ended {
             return Err(TranscriptError::Ended);
         }
-        if self.position >= self.pattern.len() {
+        let Some(next) = self.pattern.interactions().get(self.position) else {
             self.ended = true;
             return Err(TranscriptError::NoStepLeft);
-        }
-        if self.pattern.interactions()[self.position].is_alike(interaction) {
+        };
+        if next.is_alike(interaction) {
             return Ok(());
         }
         self.ended = true;

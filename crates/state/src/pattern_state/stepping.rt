@@ -21,7 +21,7 @@ impl Pattern for PatternState {
         }
         let answer = self.draft.add(interaction);
         if let Err(refusal) = answer {
-            self.ended = refusal.number() != 7;
+            self.ended = !matches!(refusal, TranscriptError::PatternFull);
         }
         answer
     }

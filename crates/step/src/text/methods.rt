@@ -1,9 +1,7 @@
-// Making, reading and comparing texts.
-ghost use Rattle.std.specs.Prelude.{◌≡◌, Decides};
-ghost use Rattle.step.specs.Steps.{same_text};
+// Making and reading texts.
+ghost use Rattle.std.specs.Prelude.{◌≡◌, true};
+ghost use Rattle.step.specs.Printable.{all_print, is_text};
 ghost use Rattle.step.specs.Texts.{content, made_text, u8_name};
-ghost use Rattle.std.specs.Cmp.{decided, partial_equiv_from_equiv};
-ghost use Rattle.step.specs.Comparing.{text_decides};
 
 use super::Text;
 use error::TranscriptError;
@@ -11,55 +9,54 @@ use error::TranscriptError;
 const LONGEST: usize = 48;
 
 impl Text {
+    #[tactic(auto, using(crate::proofs::Texts::made_ok, crate::proofs::Texts::made_no))]
     pub fn new(bytes: &[u8]) -> Result<Text, TranscriptError>
         ensures { result ≡ made_text bytes.now }
     {
-        if bytes.len() > LONGEST {
-            return Err(TranscriptError::InvalidField);
+        if is_text(bytes) {
+            Ok(Text::filled(bytes))
+        } else {
+            Err(TranscriptError::InvalidField)
         }
-        let mut held = [0u8; 48];
-        for (at, b) in bytes.iter().enumerate() {
-            if *b < 0x20 || *b > 0x7e {
-                return Err(TranscriptError::InvalidField);
-            }
-            held[at] = *b;
-        }
-        Ok(Text {
-            bytes: held,
-            len: bytes.len(),
-        })
     }
 
     // The type name of raw bytes.
+    #[tactic(auto, using(crate::proofs::Texts::same_content))]
     pub fn u8() -> Text
         ensures { result ≡ u8_name }
     {
-        let mut bytes = [0u8; 48];
-        bytes[0] = b'u';
-        bytes[1] = b'8';
-        Text { bytes, len: 2 }
+        Text::filled(b"u8")
+    }
+
+    // The text of bytes that make one.
+    fn filled(bytes: &[u8]) -> Text
+        requires { is_text bytes.now ≡ true }
+        ensures { content result ≡ bytes.now }
+    {
+        let mut held = [0; 48];
+        held[..bytes.len()].copy_from_slice(bytes);
+        Text {
+            bytes: held,
+            len: bytes.len(),
+        }
     }
 
     pub fn as_bytes(&self) -> &[u8]
         ensures { result.now ≡ content self.now }
     {
-        &self.bytes[0..self.len]
+        &self.bytes[..self.len]
     }
 }
 
-impl PartialEq for Text {
-    ghost eq = { same_text };
-
-    ghost laws = { partial_equiv_from_equiv (decided same_text text_decides) };
-
-    fn eq(&self, other: &Text) -> bool
-        ensures value { result ≡ same_text self.now other.now }
-        ensures decides { Decides result (self.now ≡ other.now) }
-    {
-        (self.len == other.len) & (self.bytes == other.bytes)
-    }
+// Whether these are at most 48 bytes that print.
+fn is_text(bytes: &[u8]) -> bool
+    ensures { result ≡ is_text bytes.now }
+{
+    bytes.len() <= LONGEST && all_print(bytes)
 }
 
-impl Eq for Text {
-    ghost laws = { decided same_text text_decides };
+fn all_print(bytes: &[u8]) -> bool
+    ensures { result ≡ all_print bytes.now }
+{
+    bytes.iter().all(|b| matches!(*b, 0x20..=0x7e))
 }

@@ -1,9 +1,9 @@
-use Rattle.std.proofs.Common.{sym}
-use Rattle.step.proofs.Texts.{made_content, made_err}
+use Rattle.std.proofs.Common.{is_ok, sym, ap, ◌∙◌}
+use Rattle.step.proofs.Texts.{made_content, made_is_ok}
 use Rattle.codecs.proofs.fields.text.Goals as goal
 
-pub unreachable-requires : goal.unreachable-requires
-unreachable-requires c = made_err c.args.bytes.now c.requires (sym c.in-Err.ensures)
+pub unwrap-requires : goal.unwrap-requires
+unwrap-requires c = ap is_ok c.new.ensures ∙ made_is_ok c.args.bytes.now c.requires
 
 pub returns : goal.returns
-returns c = made_content c.args.bytes.now c.in-Ok.t (sym c.in-Ok.ensures)
+returns c = made_content c.args.bytes.now c.unwrap.result (sym c.new.ensures ∙ c.unwrap.ensures)

@@ -1,14 +1,10 @@
--- The four words one after the other.
-use Rattle.std.proofs.Common.{replicate, ◌∙◌}
-use borrow.Rule.Slice.PartMut.{put_mid}
-use Rattle.keccak.specs.Sponge.{squeezed}
+-- Byte i is a byte of word i / 8.
+use Rattle.std.proofs.Common.{◌/◌, ◌%◌, get_or, rules}
+use Rattle.keccak.specs.Sponge.{squeezed, split}
+use Rattle.keccak_f.proofs.Made.{made_all}
 use Rattle.keccak.proofs.sponge.squeeze.Goals as goal
 
 pub returns : goal.returns
 unfolding squeezed
 returns c =
-    let e0 = c.copy_from_slice.ensures.after ∙ c.to_le_bytes.ensures in
-    let e1 = c.copy_from_slice-2.ensures.after ∙ c.to_le_bytes-2.ensures in
-    let e2 = c.copy_from_slice-3.ensures.after ∙ c.to_le_bytes-3.ensures in
-    let e3 = c.copy_from_slice-4.ensures.after ∙ c.to_le_bytes-4.ensures in
-    λ i. put_mid 24 8 (put_mid 16 8 (put_mid 8 8 (put_mid 0 8 (replicate 32 0) (e0 i)) (e1 i)) (e2 i)) (e3 i)
+    made_all _ _ (λ k. get_or (split (get_or c.args.state.now (k / 8) 0)) (k % 8) 0) (λ i y q k. search rules) c.from_fn.result 32 0 c.from_fn.ensures.items

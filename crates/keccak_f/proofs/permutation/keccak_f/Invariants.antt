@@ -3,5 +3,5 @@ use Rattle.std.proofs.Common.{◌≡◌, ◌*◌}
 use Rattle.keccak_f.specs.Permutation.{rounds}
 use Rattle.keccak_f.proofs.permutation.keccak_f.Given as goal
 
-abbrev pub invariant-loop-pair : goal.invariant-loop-pair
-invariant-loop-pair l = l.state ≡ rounds (2 * l.pair) l.initial.state
+abbrev pub invariant-loop-first : goal.invariant-loop-first
+invariant-loop-first l = l.state ≡ rounds (2 * l.first-index) l.initial.state

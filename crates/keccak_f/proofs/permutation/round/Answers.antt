@@ -1,25 +1,16 @@
 -- Each turn writes the next lane.
-use Rattle.std.proofs.Common.{ap, ◌∙◌, arith, rules}
+use Rattle.std.proofs.Common.{ap, ◌∙◌}
 use Rattle.keccak_f.specs.Permutation.{Round, ι}
 use Rattle.keccak_f.specs.Lanes.{chi_lane}
-use Rattle.keccak_f.proofs.Filling.{filling_none, filling_at, filling_more, filling_all}
+use Rattle.keccak_f.proofs.Filling.{filling_more, filling_all}
 use Rattle.keccak_f.proofs.Rounds.{round_lane, lanes_make_the_round}
 use Rattle.keccak_f.proofs.permutation.round.Goals as goal
-
-pub loop-y-init : goal.loop-y-init
-loop-y-init g c = filling_none _ _ (search rules)
-
-pub loop-x-init : goal.loop-x-init
-loop-x-init g c = filling_at c.loop-y.invariant _ (omega arith)
 
 pub loop-x-preserved : goal.loop-x-preserved
 loop-x-preserved g c =
     filling_more (round_lane c.args.a.now) _ _ _ _ c.loop-x-test.true c.loop-y-test.true
     (c.chi_lane.ensures ∙ ap (λ row. chi_lane row c.loop-x.x) c.moved_row-row.ensures)
     c.loop-x.invariant
-
-pub loop-y-preserved : goal.loop-y-preserved
-loop-y-preserved g c = filling_at c.loop-x.invariant _ (omega arith)
 
 pub returns : goal.returns
 unfolding Round ι

@@ -10,7 +10,7 @@ returns-then-not-has_room g c =
     let size = length-append c.args.prefix.now c.args.bytes.now in
     let h = leb-false _ _ (sym c.has_room.ensures ∙ c.if-not-has_room.true) in
     let t = full (c.args.prefix.now ++ c.args.bytes.now) c.args.out.now c.args.filled (g.C.CanObserve.means c.args.challenger.now) (absorbed g.C.CanObserve.sponge (g.U.Unit.items c.args.bytes.now) (absorbed g.C.CanObserve.sponge (g.U.Unit.items c.args.prefix.now) (g.C.CanObserve.means c.args.challenger.now))) (omega arith) in
-    record { answer = sym (ap (λ o. o.answer) t); buffer = sym (ap (λ o. o.buffer) t); state = sym (ap (λ o. o.state) t) }
+    sym t
 
 pub returns : goal.returns
 returns g c =
@@ -20,8 +20,6 @@ returns g c =
     let h = leb-true _ _ (sym c.has_room.ensures ∙ c.if-not-has_room.false) in
     let t = puts (xs ++ ys) c.args.out.now c.args.filled (g.C.CanObserve.means c.args.challenger.now) (absorbed g.C.CanObserve.sponge (g.U.Unit.items ys) (absorbed g.C.CanObserve.sponge (g.U.Unit.items xs) (g.C.CanObserve.means c.args.challenger.now))) (omega arith) in
     let total : (c.args.filled + length xs) + length ys ≡ c.args.filled + length (xs ++ ys) = omega arith in
-    record {
-      answer = ap Ok total ∙ sym (ap (λ o. o.answer) t);
-      buffer = c.write-2.ensures ∙ ap (λ l. wrote l (c.args.filled + length xs) ys) c.write.ensures ∙ wrote_more c.args.out.now c.args.filled xs ys (omega arith) ∙ sym (ap (λ o. o.buffer) t);
-      state = c.observe_bytes-2.ensures ∙ ap (absorbed g.C.CanObserve.sponge (g.U.Unit.items ys)) c.observe_bytes.ensures ∙ sym (ap (λ o. o.state) t);
-    }
+    let buffer = c.write-2.ensures ∙ ap (λ l. wrote l (c.args.filled + length xs) ys) c.write.ensures ∙ wrote_more c.args.out.now c.args.filled xs ys (omega arith) in
+    let state = c.observe_bytes-2.ensures ∙ ap (absorbed g.C.CanObserve.sponge (g.U.Unit.items ys)) c.observe_bytes.ensures in
+    (λ i. record { answer = Ok (total i); buffer = buffer i; state = state i }) ∙ sym t

@@ -17,7 +17,7 @@ returns-then-not-has_room g c =
     let wide = ap (λ w. length vs * w) c.wire_len-wide.ensures in
     let h = leb-false _ _ (sym c.has_room.ensures ∙ c.if-not-has_room.true) in
     let t = full (xs ++ ys) c.args.out.now c.args.filled (g.C.CanObserve.means c.args.challenger.now) (taken_in g.C.CanObserve.sponge g.U.Unit.items g.K.Codec.coding xs (map g.K.Codec.code vs) (g.C.CanObserve.means c.args.challenger.now)) (omega arith) in
-    record { answer = sym (ap (λ o. o.answer) t); buffer = sym (ap (λ o. o.buffer) t); state = sym (ap (λ o. o.state) t) }
+    sym t
 
 pub returns : goal.returns
 returns g c =
@@ -30,8 +30,6 @@ returns g c =
     let h = leb-true _ _ (sym c.has_room.ensures ∙ c.if-not-has_room.false) in
     let t = puts (xs ++ ys) c.args.out.now c.args.filled (g.C.CanObserve.means c.args.challenger.now) (taken_in g.C.CanObserve.sponge g.U.Unit.items g.K.Codec.coding xs (map g.K.Codec.code vs) (g.C.CanObserve.means c.args.challenger.now)) (omega arith) in
     let total : (c.args.filled + length xs) + length vs * c.wire_len-wide.result ≡ c.args.filled + length (xs ++ ys) = omega arith in
-    record {
-      answer = ap Ok total ∙ sym (ap (λ o. o.answer) t);
-      buffer = c.write_values.ensures.buffer ∙ ap (λ l. wrote l (c.args.filled + length xs) ys) c.write.ensures ∙ wrote_more c.args.out.now c.args.filled xs ys (omega arith) ∙ sym (ap (λ o. o.buffer) t);
-      state = c.write_values.ensures.state ∙ ap₂ (absorbed g.C.CanObserve.sponge) (joined_map g.K.Codec.coding.items g.K.Codec.code vs) c.observe_bytes.ensures ∙ sym (ap (λ o. o.state) t);
-    }
+    let buffer = c.write_values.ensures.buffer ∙ ap (λ l. wrote l (c.args.filled + length xs) ys) c.write.ensures ∙ wrote_more c.args.out.now c.args.filled xs ys (omega arith) in
+    let state = c.write_values.ensures.state ∙ ap₂ (absorbed g.C.CanObserve.sponge) (joined_map g.K.Codec.coding.items g.K.Codec.code vs) c.observe_bytes.ensures in
+    (λ i. record { answer = Ok (total i); buffer = buffer i; state = state i }) ∙ sym t

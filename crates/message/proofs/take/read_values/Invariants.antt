@@ -1,8 +1,8 @@
-use Rattle.std.proofs.Common.{◌≡◌, ◌*◌}
+use Rattle.std.proofs.Common.{◌≡◌, ◌*◌, drop}
 use Rattle.message.proofs.Values.{Partly}
 use Rattle.message.proofs.take.read_values.Given as goal
 
 abbrev pub invariant-loop-index : goal.invariant-loop-index
 invariant-loop-index g l =
-    (l.at ≡ l.index * g.K.Codec.coding.wire.wide)
-    × Partly g.C.CanObserve.sponge g.K.Codec.coding g.K.Codec.code g.K.Codec.uncoded l.bytes l.count l.initial.out (g.C.CanObserve.means l.initial.challenger) l.index l.out (g.C.CanObserve.means l.challenger)
+    (l.rest ≡ drop (l.index-counter * g.K.Codec.coding.wire.wide) l.bytes)
+    × Partly g.C.CanObserve.sponge g.K.Codec.coding g.K.Codec.code g.K.Codec.uncoded l.bytes l.count l.fn.out (g.C.CanObserve.means l.fn.challenger) l.index-counter l.place-items (g.C.CanObserve.means l.challenger)

@@ -4,10 +4,6 @@ use Rattle.render.specs.Rendering.{rendering}
 use Rattle.render.proofs.Lines.{level_le, after_le, lines_step, lines_none, lines_wide}
 use Rattle.render.proofs.rendering.render.Goals as goal
 
-pub depth_past-depth-requires : goal.depth_past-depth-requires
-depth_past-depth-requires g c =
-    omega (arith, c.level_of-level.ensures, level_le c.index-steps-position.result.hierarchy c.loop-position.depth, c.loop-position.invariant.1)
-
 pub loop-position-preserved : goal.loop-position-preserved
 loop-position-preserved g c =
     let w = c.decimal_len-width.result in

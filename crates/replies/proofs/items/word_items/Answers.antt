@@ -1,15 +1,14 @@
-use Rattle.std.proofs.Common.{vec_items, ◌∙◌, arith}
+use Rattle.std.proofs.Common.{◌≡◌, IfOk, get_or, vec_items, sym, refl, subst, rules, tests, arith}
+use Rattle.std.proofs.lemmas.Iterator.{YieldsList-from_range, YieldsList-from_map, items_from_collect}
+use Rattle.std.proofs.lemmas.List.FromFn.{fill_by_all}
 use Rattle.challenger.specs.Words.{words}
-use Rattle.replies.proofs.Copies.{copied_more, copied_all}
 use Rattle.replies.proofs.items.word_items.Goals as goal
-
-pub loop-i-preserved : goal.loop-i-preserved
-loop-i-preserved c =
-    copied_more (words c.args.bytes.now) c.loop-i.i (vec_items c.loop-i.items) _ _
-    (omega (arith, c.loop-i-test.true, c.word_count-count.ensures)) c.loop-i.invariant
-    (c.from.ensures ∙ c.word.ensures) c.in_ok-push.ensures.items
 
 pub returns : goal.returns
 returns c =
-    copied_all (words c.args.bytes.now) c.loop-i.i _
-    (omega (arith, c.loop-i-test.false, c.word_count-count.ensures)) c.loop-i.invariant
+    let ws = words c.args.bytes.now in
+    let n = c.word_count.result in
+    subst (λ xs. IfOk c.collect.result (λ v. vec_items v ≡ xs))
+    (sym (fill_by_all (λ i. get_or ws i 0) ws n 0 (sym c.word_count.ensures) (λ k l. refl)))
+    (items_from_collect _ c.collect.ensures.ran
+    (YieldsList-from_map _ (λ i. get_or ws i 0) (YieldsList-from_range 0 n n c.map.ensures.source (omega arith)) c.map.ensures.closure (λ x r q k. search (rules, tests))))

@@ -1,23 +1,19 @@
-use Rattle.std.proofs.Common.{sym, ◌∙◌, arith}
+use Rattle.std.proofs.Common.{◌≡◌, ◌<◌, ◌++◌, length, min, ap, ◌∙◌, arith}
 use Rattle.digits.specs.Digits.{number}
-use Rattle.challenger.specs.Packing.{length_packed, word_more, word_none}
+use Rattle.challenger.proofs.Chunks.{takes, word_counted, word_full}
 use Rattle.challenger.proofs.word_unit.WordUnitUnit.observe_bytes.Goals as goal
 
-pub word_at-requires : goal.word_at-requires
-word_at-requires g c =
-    let count = length_packed 3 number c.args.bytes.now in
-    omega (arith, count, c.word_count-i-end.ensures, c.loop-i-test.true)
-
-pub loop-i-preserved : goal.loop-i-preserved
-loop-i-preserved g c =
-    let count = c.word_count-i-end.ensures ∙ length_packed 3 number c.args.bytes.now in
-    word_more g.C.CanObserve.sponge 3 number c.args.bytes.now _ c.loop-i.i count _ _ _
-    c.loop-i-test.true c.word_at.ensures c.observe.ensures ∙
-    c.loop-i.invariant
-
-pub returns : goal.returns
-returns g c =
-    let count = c.word_count-i-end.ensures ∙ length_packed 3 number c.args.bytes.now in
-    sym
-    (word_none g.C.CanObserve.sponge 3 number c.args.bytes.now _ c.loop-i.i count _ c.loop-i-test.false) ∙
-    c.loop-i.invariant
+pub loop-group-preserved : goal.loop-group-preserved
+loop-group-preserved g c =
+    let step = c.in-Some.ensures.steps in
+    let rest = c.loop-group.group-iterator.rest.now in
+    let xs = c.in-Some.group.now in
+    let ys = c.next.new.self.rest.now in
+    let invariant = c.loop-group.invariant in
+    let whole : length rest ≡ length (xs ++ ys) = ap length step.1.0 in
+    let size : length xs ≡ min 3 (length (xs ++ ys)) = step.1.1 ∙ (λ i. min (invariant.size i) (whole i)) in
+    let some : 0 < length xs = omega (arith, step.1.2) in
+    record {
+      size = step.0 ∙ invariant.size;
+      left = takes 3 number word_counted word_full xs ys some size g.C.CanObserve.sponge rest c.word_of.result _ _ step.1.0 c.word_of.ensures c.observe.ensures ∙ invariant.left;
+    }

@@ -7,8 +7,8 @@ use Rattle.step.specs.Steps.{marker_step}
 use Rattle.player.specs.Plays.{asked}
 use Rattle.driver.proofs.driver.Driver.begin.Goals as goal
 
-pub returns : goal.returns
-returns g c =
+pub returns-clause-after : goal.returns-clause-after
+returns-clause-after g c =
     let e = core_of g.C.CanObserve.means c.args.self.now in
     let t = marked_so (begin c.args.kind c.args.label c.args.type_name) (marker_step Begin c.args.kind c.args.label c.args.type_name) refl e c.interact.result (c.interact.ensures.answer ∙ ap (asked e.play) c.marker.ensures) in
-    record { answer = sym (ap (λ o. o.answer) t); after = ap (λ p. record { play = p; state = e.state }) c.interact.ensures.play ∙ sym (ap (λ o. o.left) t) }
+    ap (λ p. record { play = p; state = e.state }) c.interact.ensures.play ∙ sym (ap (λ o. o.left) t)

@@ -4,7 +4,7 @@ use Rattle.keccak.specs.Hasher.{view, digest_of}
 use Rattle.keccak.proofs.Blocks.{sponge_is}
 use Rattle.keccak.proofs.hasher.Keccak256.digest.Goals as goal
 
-pub returns : goal.returns
-returns c =
+pub returns-clause-hash : goal.returns-clause-hash
+returns-clause-hash c =
     let e : c.close.result ≡ digest_of (view c.args.self) = search rules in
-    record { view = e; hash = λ m h. e ∙ ap digest_of h ∙ sym (sponge_is 0x01 m) }
+    λ m h. e ∙ ap digest_of h ∙ sym (sponge_is 0x01 m)

@@ -1,9 +1,8 @@
-use Rattle.std.proofs.Common.{vec_items, ◌∙◌, arith}
-use Rattle.scan.proofs.Pairs.{meant_more}
+use Rattle.std.proofs.Common.{◌≡◌, ◌/◌, length, IfOk, vec_items, rules, subst, refl}
+use Rattle.scan.proofs.Pairs.{meant_chunks}
 use Rattle.scan.proofs.hex.Hex.to_vec.Goals as goal
 
-pub loop-rest-preserved : goal.loop-rest-preserved
-loop-rest-preserved c =
-    meant_more c.loop-rest.rest.now (omega arith) (vec_items c.loop-rest.bytes) (vec_items c.push.new.self) _ _
-    c.value.ensures.value c.value-in-loop-rest.ensures.value c.in_ok-push.ensures.items ∙
-    c.loop-rest.invariant
+pub returns : goal.returns
+returns c =
+    let digits = c.args.self.now.digits.now in
+    subst (λ bs. IfOk c.collect.result (λ v. vec_items v ≡ bs)) (meant_chunks (length digits / 2) digits refl) (search rules)

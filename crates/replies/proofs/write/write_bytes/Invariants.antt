@@ -1,7 +1,0 @@
-use Rattle.std.proofs.Common.{◌≡◌, ◌++◌, take, vec_items}
-use Rattle.std.specs.List.{flat_map}
-use Rattle.replies.specs.Texts.{pair}
-use Rattle.replies.proofs.write.write_bytes.Given as goal
-
-abbrev pub invariant-loop-b : goal.invariant-loop-b
-invariant-loop-b l = vec_items l.out ≡ vec_items l.initial.out ++ flat_map pair (take l.b-index l.bytes)
