@@ -1,6 +1,7 @@
 // Hashes the messages of standard input, and says of each digest whether it is the expected one.
 #![tactic(auto)]
 
+mod digests;
 mod message;
 mod parts;
 mod tally;
