@@ -1,5 +1,5 @@
 // The unit for a sponge that takes 32-bit words: three bytes of a string to a word.
-ghost use Rattle.std.specs.Prelude.{◌≡◌, ◌≤◌, length, slice_index};
+ghost use Rattle.std.specs.Prelude.{◌≡◌, length, slice_index};
 ghost use Rattle.challenger.specs.Words.{group, words, quads};
 ghost use Rattle.digits.specs.Digits.{number, number_le};
 ghost use Rattle.challenger.specs.Packing.{words_unitary, quads_unitary};
@@ -7,34 +7,30 @@ ghost use Rattle.challenger.specs.Packing.{words_unitary, quads_unitary};
 use crate::can_observe::CanObserve;
 use crate::scalar_unit::ScalarUnit;
 use crate::unit::Unit;
+use std::array;
 
 #[derive(Clone, Copy)]
 pub struct WordUnit {}
 
-// At most four bytes, completed by zero bytes.
+// The first four bytes, completed by zero bytes. Read one by one: a copy whose length is known only at run time is a call.
 fn padded(bytes: &[u8]) -> [u8; 4]
-    requires { length bytes.now ≤ 4 }
     ensures { result ≡ group 4 bytes.now 0 }
 {
-    let mut four = [0; 4];
-    four[0..bytes.len()].copy_from_slice(bytes);
-    four
+    array::from_fn(|i| bytes.get(i).copied().unwrap_or(0))
 }
 
 // Two readers and two loops, below: one of both would take the reader as a closure, whose contract is longer than the loop.
 
-// The word of at most three bytes of a string.
+// The word of the first three bytes of a string.
 fn word_of(bytes: &[u8]) -> u32
-    requires { length bytes.now ≤ 3 }
     ensures { result ≡ number (group 3 bytes.now 0) }
 {
     let [a, b, c, _] = padded(bytes);
     u32::from_be_bytes([0, a, b, c])
 }
 
-// The word of at most four wire bytes of a field value.
+// The word of the first four wire bytes of a field value.
 fn quad_of(wire: &[u8]) -> u32
-    requires { length wire.now ≤ 4 }
     ensures { result ≡ number_le (group 4 wire.now 0) }
 {
     u32::from_le_bytes(padded(wire))
@@ -54,7 +50,7 @@ impl WordUnit {
     {
         // By its place: `nth` of the chunks would walk over all before it.
         match bytes.get(i.saturating_mul(3)..) {
-            Some(rest) => word_of(&rest[0..rest.len().min(3)]),
+            Some(rest) => word_of(rest),
             None => 0,
         }
     }
@@ -68,8 +64,14 @@ impl Unit for WordUnit {
     ghost unitary = { words_unitary };
 
     fn observe_bytes<C: CanObserve<u32>>(challenger: &mut C, bytes: &[u8]) {
-        for group in bytes.chunks(3) {
-            challenger.observe(word_of(group));
+        // Whole groups by a pattern: with `chunks`, which asks each for its length, a word takes twice as long.
+        let mut rest = bytes;
+        while let [a, b, c, tail @ ..] = rest {
+            challenger.observe(u32::from_be_bytes([0, *a, *b, *c]));
+            rest = tail;
+        }
+        if !rest.is_empty() {
+            challenger.observe(word_of(rest));
         }
     }
 }

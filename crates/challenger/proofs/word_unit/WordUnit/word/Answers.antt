@@ -1,5 +1,4 @@
-use Rattle.std.proofs.Common.{rules, length, min, take, ap, ap₂, ◌∙◌, arith}
-use native.Mathlib.Nat.{sub-zero}
+use Rattle.std.proofs.Common.{rules, ap, ◌∙◌, arith}
 use Rattle.digits.specs.Digits.{number}
 use Rattle.challenger.specs.Words.{group}
 use Rattle.challenger.proofs.Places.{word_at, word_past}
@@ -8,10 +7,7 @@ use Rattle.challenger.proofs.word_unit.WordUnit.word.Goals as goal
 pub returns-in-Some : goal.returns-in-Some
 returns-in-Some c =
     let look = c.in-Some.ensures.lookup in
-    let bs = c.args.bytes.now in
-    let part = ap (λ l. number (group 3 l 0)) (ap₂ take (sub-zero c.min.result) look.0.2) in
-    let least = c.min.ensures ∙ ap (λ l. min (length l) 3) look.0.2 in
-    c.word_of.ensures ∙ part ∙ word_at bs c.saturating_mul.result look.0.0 c.min.result c.args.i least c.saturating_mul.ensures (search rules)
+    c.word_of.ensures ∙ ap (λ l. number (group 3 l 0)) look.0.2 ∙ word_at c.args.bytes.now c.saturating_mul.result c.args.i c.saturating_mul.ensures (search rules)
 
 pub returns-in-None : goal.returns-in-None
 returns-in-None c =
