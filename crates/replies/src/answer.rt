@@ -13,6 +13,9 @@ use std::alloc::{AllocError, Global};
 use step::text::Text;
 use step::type_tag::TypeTag;
 
+// Most answers fit without growing.
+const USUAL: usize = 64;
+
 #[derive(Drop)]
 pub enum Answer {
     Error,
@@ -31,7 +34,7 @@ impl Answer {
     pub fn to_text(&self, heap: Global) -> Result<Vec<u8>, AllocError>
         ensures { IfOk result (λ v. v.items ≡ text (response_of self.now)) }
     {
-        let mut out = VecSink::new(heap);
+        let mut out = VecSink::from_vec(Vec::with_capacity(heap, USUAL)?);
         self.put(&mut out);
         out.finish()
     }

@@ -21,6 +21,14 @@ impl VecSink {
         }
     }
 
+    // What is put comes after these bytes, in the room that they have.
+    pub fn from_vec(bytes: Vec<u8>) -> VecSink
+        ensures kept { Keeps result bytes.items }
+        ensures ready { is_ok result.kept ≡ true }
+    {
+        VecSink { kept: Ok(bytes) }
+    }
+
     // The bytes, unless memory ran out.
     pub fn finish(self) -> Result<Vec<u8>, AllocError>
         ensures { (m : List ℕ) → Keeps self m → IfOk result (λ v. v.items ≡ m) }
