@@ -8,8 +8,8 @@ use step::interaction::Interaction;
 // At most 64, by value: a `Vec` needs the heap, and the library's `ArrayVec` is not `Copy`, which the pattern that is made of them is.
 #[derive(Clone, Copy)]
 pub struct Steps {
-    at: [Interaction; 64],
-    len: usize,
+    pub(crate) at: [Interaction; 64],
+    pub(crate) len: usize,
     ghost whole: { length at ≡ 64 },
     ghost fits: { len ≤ 64 },
 }

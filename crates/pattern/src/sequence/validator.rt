@@ -110,7 +110,11 @@ impl InteractionPattern {
     pub fn new<S: Candidate>(rows: &[S]) -> Result<InteractionPattern, TranscriptError>
         ensures { pattern_result result ≡ validated S.Candidate.made rows.now }
     {
-        let mut steps = Steps::new();
+        // Made here: a function that handed the table of 64 over would have it written twice.
+        let mut steps = Steps {
+            at: [Steps::blank(); 64],
+            len: 0,
+        };
         // Positions of the openers that are still open.
         let mut scopes = Scopes::new();
         // A refusal names a step by its position.

@@ -7,13 +7,16 @@ use step::interaction::{Hierarchy, Interaction, Kind};
 use step::text::Text;
 
 impl Steps {
+    // What stands in the places that hold no step yet.
+    pub(crate) fn blank() -> Interaction {
+        Interaction::marker(Hierarchy::Atomic, Kind::Protocol, Text::u8(), Text::u8())
+    }
+
     pub(crate) fn new() -> Steps
         ensures { listed result ≡ [] }
     {
-        // It stands in the places that hold no step yet.
-        let blank = Interaction::marker(Hierarchy::Atomic, Kind::Protocol, Text::u8(), Text::u8());
         Steps {
-            at: [blank; 64],
+            at: [Steps::blank(); 64],
             len: 0,
         }
     }
