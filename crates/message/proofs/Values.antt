@@ -18,7 +18,7 @@ joined_push f [] x = append-nil (f x)
 joined_push f (y ∷ ys) x = ap (λ r. f y ++ r) (joined_push f ys x) ∙ sym (append_assoc (f y) (flat_map f ys) (f x))
 
 -- the bytes at an index are a value's
-piece_value : (w : Wire) (s : List ℕ) (n i : ℕ) → i < n → n * w.wide ≤ length s → Bytes s → w.decodes (take w.wide (drop (i * w.wide) s)) ≡ true
+pub piece_value : (w : Wire) (s : List ℕ) (n i : ℕ) → i < n → n * w.wide ≤ length s → Bytes s → w.decodes (take w.wide (drop (i * w.wide) s)) ≡ true
     → Value w (take w.wide (drop (i * w.wide) s))
 piece_value w s n i h long b g =
     let m : suc i * w.wide ≤ n * w.wide = mul-le-mul_right w.wide (omega arith) in
