@@ -7,7 +7,7 @@ use Rattle.step.specs.contracts.interaction.LengthPartialEq.TheImpl as length_fo
 use Rattle.step.specs.contracts.tag_code.TagCodePartialEq.TheImpl as code
 use Rattle.step.specs.contracts.text.TextPartialEq.TheImpl as text
 use Rattle.step.specs.contracts.type_tag.TypeTagPartialEq.TheImpl as tag
-use Rattle.step.specs.Steps.{same_text, same_tag}
+use Rattle.step.specs.Steps.{same_hierarchy, same_kind, same_length, same_text, same_tag, alike}
 
 -- a test decides whether two values are one
 abbrev pub Tells : {X : Type 0} → (X → X → Bool) → Type 0
@@ -26,5 +26,9 @@ pub record EqualitiesTell : Type 0 where
   pub texts : Tells text.ghosts.eq
   pub tags : Tells tag.ghosts.eq
   pub steps : Tells step.ghosts.eq
+  pub same_hierarchies : Computes hierarchy.ghosts.eq same_hierarchy
+  pub same_kinds : Computes kind.ghosts.eq same_kind
+  pub same_lengths : Computes length_form.ghosts.eq same_length
   pub same_texts : Computes text.ghosts.eq same_text
   pub same_tags : Computes tag.ghosts.eq same_tag
+  pub same_steps : Computes step.ghosts.eq alike
