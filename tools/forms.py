@@ -30,7 +30,7 @@ PATTERNS = [
      r"^impl.*\b(PartialEq|Eq|PartialOrd|Ord|Clone|Copy|From<.*|TryFrom<.*|FromStr|Display|Debug|Default|Hash) for "),
     ("4 conversions by function", r"fn (from_parts|named|fitting|number|into_\w+|to_\w+|value_or_fault|decode_len|u8|is_alike|of_table)\b"),
     ("4 printing by function", r"fn (name_of_\w+|put\w*|write\w*|say\w*|hex_digit|encode)\b"),
-    ("6 lengths beside a buffer", r"^\s*(pub )?(len|filled|depth): usize"),
+    ("6 lengths beside a buffer", r"^\s*(pub(\(crate\))? )?(len|filled|depth): usize"),
     ("7 matches that choose a step", r"\bmatch (\*?self|codec|unit|field|name|value|leaf|word|\w+\.hierarchy|hierarchy|kind|length|\w+\.code)\b"),
 ]
 
