@@ -50,6 +50,7 @@ impl WordUnit {
     {
         // By its place: `nth` of the chunks would walk over all before it.
         match bytes.get(i.saturating_mul(3)..) {
+            Some([a, b, c, ..]) => u32::from_be_bytes([0, *a, *b, *c]),
             Some(rest) => word_of(rest),
             None => 0,
         }
